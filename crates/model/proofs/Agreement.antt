@@ -1,0 +1,258 @@
+-- On computed bits the registry's step is the model's, and so for every list of calls. Assumes nothing.
+use mathlib.Core.Path.{_≡_, refl, sym, ap, _∙_}
+use mathlib.Core.Bool.{Bool, true, false, not, _&&_, _||_, cond}
+use mathlib.Core.List.{List, [], _∷_, _++_}
+use mathlib.Core.Option.{Option, none, some}
+use Prim.Native.Nat.{ℕ, _<_}
+use native.Mathlib.Omega.{arith}
+use lib.Dec.{ltb}
+use lib.ListN.{length, length-set, length-replicate}
+use borrow.Author.Tests.{ltb-true}
+use Rattle.block.specs.declared.Fault.{Fault}
+use Rattle.block.specs.declared.Fault.the-variants.{Nowhere, At}
+use Rattle.block.specs.Entry.{Container, Policy, Settings, Entry, container, policy}
+use Rattle.block.specs.Refusal.{Refusal, Check, check, refuse, firstRefusal, Read, refused, accepted}
+use Rattle.block.specs.Refusal.{unlessRefused as readUnless}
+use Rattle.block.specs.Reader.{settingsChecks, entryChecks, settingsIn, entryIn, readSettings, readEntry}
+use Rattle.model.specs.Table.{Table, on, isFree, at, free, full, lowestFree}
+use Rattle.model.specs.Rules.{carries}
+use Rattle.model.specs.Model.{containerSlots, policySlots, Model, empty, withContainer, withPolicy, computedBits}
+use Rattle.model.specs.Calls.{Call, openWith, admit, removeContainer, removePolicy, askReaches, askUser, nextFinding, counts, rebuild, audit}
+use Rattle.model.specs.Calls.{Answer, refusal, done, containerAt, policyAt, says, run}
+use Rattle.model.specs.ModelStep.{opening, placing, placingPolicy, admitting, removing, removingPolicy, asking, askingUser, modelStep}
+use Rattle.model.specs.Registry.{Registry, computed, consistent, changeContainer, changePolicy, opened, rebuilt}
+use Rattle.model.specs.Refusals.{where0, beyond, slotChecks, pairChecks, noRoom, refusals}
+use Rattle.model.specs.RegistryStep.{admitContainer, admitPolicy, admitEntry, takePolicy, acceptedStep, unlessRefused, registryStep}
+use Rattle.model.proofs.Tables.{at-lowest, full-lowest, free-at, beyond-ltb}
+use Rattle.model.proofs.Unchanged.{container-changed, policy-admitted, policy-removed, opened-computed}
+use Rattle.model.proofs.Consistent.{computed-consistent}
+
+-- the two tables have their numbers of slots
+pub record Sized (m : Model) : Type 0 where
+  pub containers : length (m .containers) ≡ containerSlots
+  pub policies : length (m .policies) ≡ policySlots
+
+-- the registry's outcome that answers to a model's: its bits are computed
+abbrev pub asComputed : {A : Type 0} → Model × A → Registry × A
+asComputed r = (computed (r .0), r .1)
+
+-- ---- lists of checks
+
+-- the first refusal if there is one, else the second
+unfoldable pub orRefusal : Option Refusal → Option Refusal → Option Refusal
+orRefusal none rest = rest
+orRefusal (some f) rest = some f
+
+pub first-append : (cs ds : List Check) → firstRefusal (cs ++ ds) ≡ orRefusal (firstRefusal cs) (firstRefusal ds)
+unfolding orRefusal
+first-append [] ds = refl
+first-append (c ∷ cs) ds = ap (refuse (c .number) (c .fault)) (first-append cs ds) ∙ pick (c .fault)
+  where
+    pick : (f : Fault) → refuse (c .number) f (orRefusal (firstRefusal cs) (firstRefusal ds)) ≡ orRefusal (refuse (c .number) f (firstRefusal cs)) (firstRefusal ds)
+    pick Nowhere = refl
+    pick (At p) = refl
+
+module _ {A : Type 0} (r : Registry) (call : Call) (size : ℕ) (t : Table A) (whole : length t ≡ size) where
+  free-within : (i : ℕ) → ltb i size ≡ true → free t i ≡ isFree (at t i)
+  free-within i e = free-at t i (rw whole (ltb-true i size e))
+
+  -- a call that meets 10 and 11 of one slot
+  pub slot-step : (i : ℕ) → refusals r call ≡ slotChecks size t i
+      → registryStep r call ≡ cond (ltb i size) (cond (isFree (at t i)) (r, refusal 11) (acceptedStep r call)) (r, refusal 10)
+  unfolding registryStep unlessRefused
+  slot-step i e = ap (λ cs. unlessRefused r call (firstRefusal cs)) e ∙ pick (ltb i size) (isFree (at t i)) refl refl
+    where
+      pick : (u v : Bool) → ltb i size ≡ u → isFree (at t i) ≡ v
+          → unlessRefused r call (firstRefusal (slotChecks size t i)) ≡ cond u (cond v (r, refusal 11) (acceptedStep r call)) (r, refusal 10)
+      pick false v h k = rw (beyond-ltb size i false h)
+      pick true true h k = rw (beyond-ltb size i true h, free-within i h, k)
+      pick true false h k = rw (beyond-ltb size i true h, free-within i h, k)
+
+-- a call that meets 10 and 11 of two slots
+module _ {A : Type 0} (r : Registry) (call : Call) (size : ℕ) (t : Table A) (whole : length t ≡ size) where
+  pub pair-step : (a b : ℕ) → refusals r call ≡ pairChecks size t a b
+      → registryStep r call
+      ≡ cond (ltb a size && ltb b size) (cond (isFree (at t a) || isFree (at t b)) (r, refusal 11) (acceptedStep r call)) (r, refusal 10)
+  unfolding registryStep unlessRefused
+  pair-step a b e = ap (λ cs. unlessRefused r call (firstRefusal cs)) e ∙ pick (ltb a size) (ltb b size) (isFree (at t a) || isFree (at t b)) refl refl refl
+    where
+      pick : (u v w : Bool) → ltb a size ≡ u → ltb b size ≡ v → (isFree (at t a) || isFree (at t b)) ≡ w
+          → unlessRefused r call (firstRefusal (pairChecks size t a b)) ≡ cond (u && v) (cond w (r, refusal 11) (acceptedStep r call)) (r, refusal 10)
+      pick false v w h k l = rw (beyond-ltb size a false h)
+      pick true false w h k l = rw (beyond-ltb size a true h, beyond-ltb size b false k)
+      pick true true true h k l =
+          rw (beyond-ltb size a true h, beyond-ltb size b true k, free-within r call size t whole a h, free-within r call size t whole b k, l)
+      pick true true false h k l =
+          rw (beyond-ltb size a true h, beyond-ltb size b true k, free-within r call size t whole a h, free-within r call size t whole b k, l)
+
+-- ---- each call
+
+module _ (m : Model) (sized : Sized m) where
+  open-agrees : (b : List ℕ) (o : Option Refusal)
+      → unlessRefused (computed m) (openWith b) o ≡ asComputed (opening m (readUnless o (settingsIn b)))
+  unfolding unlessRefused acceptedStep opening
+  open-agrees b none = ap (λ r. (r, done)) (opened-computed (settingsIn b))
+  open-agrees b (some f) = refl
+
+  -- no room: the search finds no slot
+  admit-container : (x : Container) (o : Option ℕ) → lowestFree (m .containers) ≡ o
+      → cond (isFree o) (computed m, refusal 12) (admitContainer (computed m) x o) ≡ asComputed (placing m x o)
+  unfolding admitContainer placing
+  admit-container x none e = refl
+  admit-container x (some c) e = ap (λ r. (r, containerAt c)) (container-changed m c (some x))
+
+  admit-policy : (p : Policy) (o : Option ℕ) → lowestFree (m .policies) ≡ o
+      → cond (isFree o) (computed m, refusal 12) (admitPolicy (computed m) p o) ≡ asComputed (placingPolicy m p o)
+  unfolding admitPolicy placingPolicy
+  admit-policy p none e = refl
+  admit-policy p (some q) e = ap (λ r. (r, policyAt q)) (policy-admitted m q p (at-lowest (m .policies) q e))
+
+  admit-entry : (e : Entry) → cond (noRoom m e) (computed m, refusal 12) (admitEntry (computed m) e) ≡ asComputed (admitting m (accepted e))
+  unfolding noRoom admitEntry admitting computed
+  admit-entry (container x) = rw (← full-lowest (m .containers)) (admit-container x (lowestFree (m .containers)) refl)
+  admit-entry (policy p) = rw (← full-lowest (m .policies)) (admit-policy p (lowestFree (m .policies)) refl)
+
+  admit-agrees : (b : List ℕ) (o : Option Refusal)
+      → unlessRefused (computed m) (admit b) (orRefusal o (firstRefusal (check 12 (where0 (noRoom m (entryIn b))) ∷ [])))
+      ≡ asComputed (admitting m (readUnless o (entryIn b)))
+  unfolding unlessRefused acceptedStep orRefusal admitting
+  admit-agrees b none = pick (noRoom m (entryIn b)) ∙ admit-entry (entryIn b)
+    where
+      pick : (u : Bool) → unlessRefused (computed m) (admit b) (firstRefusal (check 12 (where0 u) ∷ []))
+          ≡ cond u (computed m, refusal 12) (admitEntry (computed m) (entryIn b))
+      pick true = refl
+      pick false = refl
+  admit-agrees b (some f) = refl
+
+  remove-agrees : (c : ℕ) (u : Bool) (x : Option Container)
+      → cond u (cond (isFree x) (computed m, refusal 11) (changeContainer (computed m) c none, done)) (computed m, refusal 10)
+      ≡ asComputed (cond u (removing m c x) (m, refusal 10))
+  unfolding removing
+  remove-agrees c false x = refl
+  remove-agrees c true none = refl
+  remove-agrees c true (some x) = ap (λ r. (r, done)) (container-changed m c none)
+
+  remove-policy-agrees : (q : ℕ) (u : Bool) (x : Option Policy) → at (m .policies) q ≡ x
+      → cond u (cond (isFree x) (computed m, refusal 11) (takePolicy (computed m) q x)) (computed m, refusal 10)
+      ≡ asComputed (cond u (removingPolicy m q x) (m, refusal 10))
+  unfolding removingPolicy takePolicy
+  remove-policy-agrees q false x e = refl
+  remove-policy-agrees q true none e = refl
+  remove-policy-agrees q true (some p) e = ap (λ r. (r, done)) (policy-removed m q p e)
+
+  ask-agrees : (a b : ℕ) (u : Bool) (x y : Option Container)
+      → cond u (cond (isFree x || isFree y) (computed m, refusal 11) (computed m, says (computedBits m .matrix a b))) (computed m, refusal 10)
+      ≡ asComputed (m, cond u (asking m a b x y) (refusal 10))
+  unfolding asking
+  ask-agrees a b false x y = refl
+  ask-agrees a b true none y = refl
+  ask-agrees a b true (some x) none = refl
+  ask-agrees a b true (some x) (some y) = refl
+
+  ask-user-agrees : (v : ℕ) (u : Bool) (x : Option Container)
+      → cond u (cond (isFree x) (computed m, refusal 11) (computed m, says (on (λ c. carries c (record { key = m .settings .userKey; value = v })) x))) (computed m, refusal 10)
+      ≡ asComputed (m, cond u (askingUser m v x) (refusal 10))
+  unfolding askingUser
+  ask-user-agrees v false x = refl
+  ask-user-agrees v true none = refl
+  ask-user-agrees v true (some x) = refl
+
+  -- One call: the registry of computed bits is refused, answers and changes as the model.
+  pub step-agrees : (call : Call) → registryStep (computed m) call ≡ asComputed (modelStep m call)
+  unfolding modelStep registryStep refusals computed acceptedStep unlessRefused rebuilt readSettings readEntry
+  step-agrees (openWith b) = open-agrees b (firstRefusal (settingsChecks b))
+  step-agrees (admit b) =
+      ap (unlessRefused (computed m) (admit b)) (first-append (entryChecks (m .settings) b) (check 12 (where0 (noRoom m (entryIn b))) ∷ []))
+      ∙ admit-agrees b (firstRefusal (entryChecks (m .settings) b))
+  step-agrees (removeContainer c) =
+      slot-step (computed m) (removeContainer c) containerSlots (m .containers) (sized .containers) c refl
+      ∙ remove-agrees c (ltb c containerSlots) (at (m .containers) c)
+  step-agrees (removePolicy q) =
+      slot-step (computed m) (removePolicy q) policySlots (m .policies) (sized .policies) q refl
+      ∙ remove-policy-agrees q (ltb q policySlots) (at (m .policies) q) refl
+  step-agrees (askReaches a b) =
+      pair-step (computed m) (askReaches a b) containerSlots (m .containers) (sized .containers) a b refl
+      ∙ ask-agrees a b (ltb a containerSlots && ltb b containerSlots) (at (m .containers) a) (at (m .containers) b)
+  step-agrees (askUser c v) =
+      slot-step (computed m) (askUser c v) containerSlots (m .containers) (sized .containers) c refl
+      ∙ ask-user-agrees v (ltb c containerSlots) (at (m .containers) c)
+  step-agrees (nextFinding c) = refl
+  step-agrees counts = refl
+  step-agrees rebuild = refl
+  step-agrees audit = ap (λ t. (computed m, says t)) (computed-consistent m)
+
+-- ---- every call leaves the tables their sizes
+
+pub sized-empty : (s : Settings) → Sized (empty s)
+unfolding empty
+sized-empty s = record {
+  containers = length-replicate {A = Option Container} containerSlots none;
+  policies = length-replicate {A = Option Policy} policySlots none;
+}
+
+module _ (m : Model) (sized : Sized m) where
+  sized-container : (c : ℕ) (x : Option Container) → Sized (withContainer m c x)
+  unfolding withContainer
+  sized-container c x = record { containers = length-set (m .containers) c x ∙ sized .containers; policies = sized .policies }
+
+  sized-policy : (q : ℕ) (x : Option Policy) → Sized (withPolicy m q x)
+  unfolding withPolicy
+  sized-policy q x = record { containers = sized .containers; policies = length-set (m .policies) q x ∙ sized .policies }
+
+  sized-open : (o : Read Settings) → Sized (opening m o .0)
+  unfolding opening
+  sized-open (refused f) = sized
+  sized-open (accepted s) = sized-empty s
+
+  sized-admit : (o : Read Entry) (c q : Option ℕ) → lowestFree (m .containers) ≡ c → lowestFree (m .policies) ≡ q → Sized (admitting m o .0)
+  unfolding admitting placing placingPolicy
+  sized-admit (refused f) c q h k = sized
+  sized-admit (accepted (container x)) none q h k = rw h sized
+  sized-admit (accepted (container x)) (some c) q h k = rw h (sized-container c (some x))
+  sized-admit (accepted (policy p)) c none h k = rw k sized
+  sized-admit (accepted (policy p)) c (some q) h k = rw k (sized-policy q (some p))
+
+  sized-remove : (c : ℕ) (u : Bool) (x : Option Container) → Sized ((cond u (removing m c x) (m, refusal 10)) .0)
+  unfolding removing
+  sized-remove c false x = sized
+  sized-remove c true none = sized
+  sized-remove c true (some x) = sized-container c none
+
+  sized-remove-policy : (q : ℕ) (u : Bool) (x : Option Policy) → Sized ((cond u (removingPolicy m q x) (m, refusal 10)) .0)
+  unfolding removingPolicy
+  sized-remove-policy q false x = sized
+  sized-remove-policy q true none = sized
+  sized-remove-policy q true (some p) = sized-policy q none
+
+  pub sized-step : (call : Call) → Sized (modelStep m call .0)
+  unfolding modelStep
+  sized-step (openWith b) = sized-open (readSettings b)
+  sized-step (admit b) = sized-admit (readEntry (m .settings) b) (lowestFree (m .containers)) (lowestFree (m .policies)) refl refl
+  sized-step (removeContainer c) = sized-remove c (ltb c containerSlots) (at (m .containers) c)
+  sized-step (removePolicy q) = sized-remove-policy q (ltb q policySlots) (at (m .policies) q)
+  sized-step (askReaches a b) = sized
+  sized-step (askUser c v) = sized
+  sized-step (nextFinding c) = sized
+  sized-step counts = sized
+  sized-step rebuild = sized
+  sized-step audit = sized
+
+-- Every list of calls: the same refusals, the same answers, the same entries, and bits by the rules.
+pub run-agrees : (m : Model) → Sized m → (calls : List Call) → run registryStep (computed m) calls ≡ asComputed (run modelStep m calls)
+run-agrees m sized [] = refl
+run-agrees m sized (call ∷ calls) =
+    rw (step-agrees m sized call, run-agrees (modelStep m call .0) (sized-step m sized call) calls)
+
+-- an accepted open gives the computed registry of no entries, whatever was there
+pub accepted-open : (r : Registry) (b : List ℕ) (s : Settings) → readSettings b ≡ accepted s → registryStep r (openWith b) ≡ (computed (empty s), done)
+unfolding registryStep refusals readSettings acceptedStep unlessRefused
+accepted-open r b s = pick (firstRefusal (settingsChecks b))
+  where
+    pick : (o : Option Refusal) → readUnless o (settingsIn b) ≡ accepted s → unlessRefused r (openWith b) o ≡ (computed (empty s), done)
+    pick none e = let h : settingsIn b ≡ s = cc in rw h (ap (λ v. (v, done)) (opened-computed s))
+    pick (some f) e = let z : _≡_ {A = ℕ} 0 1 = cc in absurd (omega arith)
+
+-- The same from an accepted open, on any registry.
+pub opened-agrees : (r : Registry) (b : List ℕ) (s : Settings) → readSettings b ≡ accepted s → (calls : List Call)
+    → run registryStep (registryStep r (openWith b) .0) calls ≡ asComputed (run modelStep (empty s) calls)
+opened-agrees r b s e calls = rw (accepted-open r b s e) (run-agrees (empty s) (sized-empty s) calls)

@@ -1,0 +1,11 @@
+-- The theorems that hold of the definitions alone.
+pub mod Lists
+pub mod Tables
+pub mod Findings
+pub mod Next
+pub mod Pairs
+pub mod Consistent
+pub mod Unchanged
+pub mod Agreement
+pub mod Refused
+pub mod Stars

@@ -1,0 +1,11 @@
+-- The meaning of the register, in document 01's order.
+pub mod Table
+pub mod Rules
+pub mod Model
+pub mod Findings
+pub mod Calls
+pub mod ModelStep
+pub mod Registry
+pub mod Refusals
+pub mod RegistryStep
+pub mod Stars

@@ -1,0 +1,73 @@
+-- The reference model's step: document 01, "The plain book of demand 3". It knows of no stored bit and of no memory.
+-- Assumes nothing.
+use mathlib.Core.Bool.{Bool, true, false, _&&_, cond}
+use mathlib.Core.List.{List}
+use mathlib.Core.Option.{Option, none, some}
+use Prim.Native.Nat.{ℕ}
+use lib.Dec.{ltb}
+use lib.ListN.{length}
+use Rattle.block.specs.Entry.{Container, Policy, Settings, Entry, container, policy}
+use Rattle.block.specs.Refusal.{Refusal, Read, refused, accepted}
+use Rattle.block.specs.Reader.{readSettings, readEntry}
+use Rattle.model.specs.Table.{at, lowestFree}
+use Rattle.model.specs.Rules.{carries}
+use Rattle.model.specs.Model.{containerSlots, policySlots, Model, empty, withContainer, withPolicy, computedBits}
+use Rattle.model.specs.Findings.{containersOf, policiesOf, nextAfter, pairs}
+use Rattle.model.specs.Calls.{Call, openWith, admit, removeContainer, removePolicy, askReaches, askUser, nextFinding, counts, rebuild, audit}
+use Rattle.model.specs.Calls.{Answer, refusal, done, containerAt, policyAt, says, counted, foundAnswer}
+
+module _ (m : Model) where
+  -- "Open sets new settings and empties all places."
+  unfoldable pub opening : Read Settings → Model × Answer
+  opening (refused r) = (m, refusal (r .number))
+  opening (accepted s) = (empty s, done)
+
+  -- "Admit puts the entry at the lowest empty place of its table and gives that place."
+  unfoldable pub placing : Container → Option ℕ → Model × Answer
+  placing x none = (m, refusal 12)
+  placing x (some c) = (withContainer m c (some x), containerAt c)
+
+  unfoldable pub placingPolicy : Policy → Option ℕ → Model × Answer
+  placingPolicy p none = (m, refusal 12)
+  placingPolicy p (some q) = (withPolicy m q (some p), policyAt q)
+
+  unfoldable pub admitting : Read Entry → Model × Answer
+  admitting (refused r) = (m, refusal (r .number))
+  admitting (accepted (container x)) = placing x (lowestFree (m .containers))
+  admitting (accepted (policy p)) = placingPolicy p (lowestFree (m .policies))
+
+  -- "A removal empties its place."
+  unfoldable pub removing : ℕ → Option Container → Model × Answer
+  removing c none = (m, refusal 11)
+  removing c (some x) = (withContainer m c none, done)
+
+  unfoldable pub removingPolicy : ℕ → Option Policy → Model × Answer
+  removingPolicy q none = (m, refusal 11)
+  removingPolicy q (some p) = (withPolicy m q none, done)
+
+  -- "Asking, next finding and counts are answered by this paper's definitions from these settings and entries and the bits
+  -- and findings worked out from them."
+  unfoldable pub asking : ℕ → ℕ → Option Container → Option Container → Answer
+  asking a b none y = refusal 11
+  asking a b (some x) none = refusal 11
+  asking a b (some x) (some y) = says (computedBits m .matrix a b)
+
+  unfoldable pub askingUser : ℕ → Option Container → Answer
+  askingUser v none = refusal 11
+  askingUser v (some x) = says (carries x (record { key = m .settings .userKey; value = v }))
+
+-- "A call goes through the checks it meets, in their order, over its arguments, these settings and these tables. Turned down,
+-- it changes nothing. Other calls, rebuild too, change nothing. Audit is answered that the book is in step; an accepted open,
+-- removal or rebuild, that it was done."
+unfoldable pub modelStep : Model → Call → Model × Answer
+modelStep m (openWith b) = opening m (readSettings b)
+modelStep m (admit b) = admitting m (readEntry (m .settings) b)
+modelStep m (removeContainer c) = cond (ltb c containerSlots) (removing m c (at (m .containers) c)) (m, refusal 10)
+modelStep m (removePolicy q) = cond (ltb q policySlots) (removingPolicy m q (at (m .policies) q)) (m, refusal 10)
+modelStep m (askReaches a b) =
+    (m, cond (ltb a containerSlots && ltb b containerSlots) (asking m a b (at (m .containers) a) (at (m .containers) b)) (refusal 10))
+modelStep m (askUser c v) = (m, cond (ltb c containerSlots) (askingUser m v (at (m .containers) c)) (refusal 10))
+modelStep m (nextFinding c) = (m, foundAnswer (nextAfter m (computedBits m) c))
+modelStep m counts = (m, counted (length (containersOf m)) (length (policiesOf m)) (pairs (computedBits m)))
+modelStep m rebuild = (m, done)
+modelStep m audit = (m, says true)

@@ -1,0 +1,57 @@
+-- The registry's step: the refusals that the call meets, then what it does to entries and stored bits. Assumes nothing.
+use mathlib.Core.Bool.{Bool}
+use mathlib.Core.List.{List}
+use mathlib.Core.Option.{Option, none, some}
+use Prim.Native.Nat.{ℕ}
+use lib.ListN.{length}
+use Rattle.block.specs.Entry.{Container, Policy, Entry, container, policy}
+use Rattle.block.specs.Refusal.{Refusal, firstRefusal}
+use Rattle.block.specs.Reader.{settingsIn, entryIn}
+use Rattle.model.specs.Table.{on, at, lowestFree}
+use Rattle.model.specs.Rules.{carries}
+use Rattle.model.specs.Model.{Model}
+use Rattle.model.specs.Findings.{containersOf, policiesOf, nextAfter, pairs}
+use Rattle.model.specs.Calls.{Call, openWith, admit, removeContainer, removePolicy, askReaches, askUser, nextFinding, counts, rebuild, audit}
+use Rattle.model.specs.Calls.{Answer, refusal, done, containerAt, policyAt, says, counted, foundAnswer}
+use Rattle.model.specs.Registry.{Registry, consistent, changeContainer, changePolicy, opened, rebuilt}
+use Rattle.model.specs.Refusals.{refusals}
+
+module _ (r : Registry) where
+  -- "A new entry takes the lowest free place of its table."
+  unfoldable pub admitContainer : Container → Option ℕ → Registry × Answer
+  admitContainer x none = (r, refusal 12)
+  admitContainer x (some c) = (changeContainer r c (some x), containerAt c)
+
+  unfoldable pub admitPolicy : Policy → Option ℕ → Registry × Answer
+  admitPolicy p none = (r, refusal 12)
+  admitPolicy p (some q) = (changePolicy r q p (some p), policyAt q)
+
+  unfoldable pub admitEntry : Entry → Registry × Answer
+  admitEntry (container x) = admitContainer x (lowestFree (r .model .containers))
+  admitEntry (policy p) = admitPolicy p (lowestFree (r .model .policies))
+
+  unfoldable pub takePolicy : ℕ → Option Policy → Registry × Answer
+  takePolicy q none = (r, refusal 11)
+  takePolicy q (some p) = (changePolicy r q p none, done)
+
+  -- a call that no check refuses
+  unfoldable pub acceptedStep : Call → Registry × Answer
+  acceptedStep (openWith b) = (opened (settingsIn b), done)
+  acceptedStep (admit b) = admitEntry (entryIn b)
+  acceptedStep (removeContainer c) = (changeContainer r c none, done)
+  acceptedStep (removePolicy q) = takePolicy q (at (r .model .policies) q)
+  acceptedStep (askReaches a b) = (r, says (r .bits .matrix a b))
+  acceptedStep (askUser c v) =
+      (r, says (on (λ x. carries x (record { key = r .model .settings .userKey; value = v })) (at (r .model .containers) c)))
+  acceptedStep (nextFinding c) = (r, foundAnswer (nextAfter (r .model) (r .bits) c))
+  acceptedStep counts = (r, counted (length (containersOf (r .model))) (length (policiesOf (r .model))) (pairs (r .bits)))
+  acceptedStep rebuild = (rebuilt r, done)
+  acceptedStep audit = (r, says (consistent r))
+
+  -- refused, the call returns the number alone and changes nothing
+  unfoldable pub unlessRefused : Call → Option Refusal → Registry × Answer
+  unlessRefused call none = acceptedStep call
+  unlessRefused call (some f) = (r, refusal (f .number))
+
+unfoldable pub registryStep : Registry → Call → Registry × Answer
+registryStep r call = unlessRefused r call (firstRefusal (refusals r call))

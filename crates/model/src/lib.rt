@@ -1,0 +1,37 @@
+// The types that the calls share.
+
+// A slot of the table of containers.
+pub struct ContainerSlot(pub usize);
+
+// A slot of the table of policies.
+pub struct PolicySlot(pub usize);
+
+// One thing found: its kind, 1 to 7, and the two numbers that the kind gives.
+pub struct Finding {
+    pub kind: u16,
+    pub a: u16,
+    pub b: u16,
+}
+
+// A place in the list of findings: any three numbers.
+pub struct Cursor {
+    pub kind: u16,
+    pub a: u16,
+    pub b: u16,
+}
+
+// Why a call is refused.
+pub enum Refusal {
+    MemorySize,
+    NotWellFormed,
+    BlockLength,
+    Checksum,
+    Kind,
+    Limit,
+    Range,
+    Order,
+    Unused,
+    BeyondTable,
+    FreeSlot,
+    TableFull,
+}
