@@ -1,0 +1,22 @@
+-- `bitrow::either` meets its contract. Assumes nothing.
+use Rattle.bitrow.proofs.Rows.{or-row}
+use borrow.Author.Needs.{needs}
+use Rattle.bitrow.proofs.either.Statement.{statement}
+use Rattle.bitrow.proofs.either.Tie as tie
+
+returns : tie.Need-returns
+returns c = or-row _ _ (search needs) (search needs)
+
+pub either-spec : {M : Type 1} → statement M
+either-spec =
+    tie.close
+    (tie.spec
+    (λ c. search needs)
+    (λ c. search needs)
+    (λ c. search needs)
+    (λ c. search needs)
+    (λ c. search needs)
+    (λ c. search needs)
+    (λ c. search needs)
+    (λ c. search needs)
+    returns)

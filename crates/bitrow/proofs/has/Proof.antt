@@ -1,0 +1,12 @@
+-- `bitrow::has` meets its contract. Assumes nothing.
+use Rattle.bitrow.specs.Bit.{bitAt}
+use borrow.Author.Needs.{needs}
+use Rattle.bitrow.proofs.has.Statement.{statement}
+use Rattle.bitrow.proofs.has.Tie as tie
+
+returns : tie.Need-returns
+unfolding bitAt
+returns c = c .bit-of .ensures
+
+pub has-spec : {M : Type 1} → statement M
+has-spec = tie.close (tie.spec (λ c. search needs) (λ c. search needs) (λ c κs. search needs) returns)

@@ -1,0 +1,18 @@
+-- `bitrow::is_empty` meets its contract. Assumes nothing.
+use Rattle.bitrow.proofs.Rows.{empty-row}
+use borrow.Author.Needs.{needs}
+use Rattle.bitrow.proofs.is_empty.Statement.{statement}
+use Rattle.bitrow.proofs.is_empty.Tie as tie
+
+returns : tie.Need-returns
+returns c = empty-row _ (search needs)
+
+pub is-empty-spec : {M : Type 1} → statement M
+is-empty-spec =
+    tie.close
+    (tie.spec
+    (λ c. search needs)
+    (λ c. search needs)
+    (λ c. search needs)
+    (λ c. search needs)
+    returns)

@@ -1,0 +1,10 @@
+-- `bitrow::none` meets its contract. Assumes nothing.
+use Rattle.bitrow.proofs.Rows.{zeros-row}
+use Rattle.bitrow.proofs.none.Statement.{statement}
+use Rattle.bitrow.proofs.none.Tie as tie
+
+returns : tie.Need-returns
+returns c = zeros-row
+
+pub none-spec : {M : Type 1} → statement M
+none-spec = tie.close (tie.spec returns)

@@ -1,0 +1,22 @@
+-- `bitrow::same` meets its contract. Assumes nothing.
+use Rattle.bitrow.proofs.Rows.{equal-row}
+use borrow.Author.Needs.{needs}
+use Rattle.bitrow.proofs.same.Statement.{statement}
+use Rattle.bitrow.proofs.same.Tie as tie
+
+returns : tie.Need-returns
+returns c = equal-row _ _ (search needs) (search needs)
+
+pub same-spec : {M : Type 1} → statement M
+same-spec =
+    tie.close
+    (tie.spec
+    (λ c. search needs)
+    (λ c. search needs)
+    (λ c. search needs)
+    (λ c. search needs)
+    (λ c. search needs)
+    (λ c. search needs)
+    (λ c. search needs)
+    (λ c. search needs)
+    returns)

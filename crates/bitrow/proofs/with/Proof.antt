@@ -1,0 +1,11 @@
+-- `bitrow::with` meets its contract. Assumes nothing.
+use Rattle.bitrow.proofs.Rows.{insert-row}
+use borrow.Author.Needs.{needs}
+use Rattle.bitrow.proofs.with.Statement.{statement}
+use Rattle.bitrow.proofs.with.Tie as tie
+
+returns : tie.Need-returns
+returns c = insert-row _ _ (search needs) (c .pre)
+
+pub with-spec : {M : Type 1} → statement M
+with-spec = tie.close (tie.spec (λ c. search needs) (λ c. search needs) (λ c. search needs) (λ c. search needs) (λ c. search needs) returns)

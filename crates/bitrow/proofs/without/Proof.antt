@@ -1,0 +1,11 @@
+-- `bitrow::without` meets its contract. Assumes nothing.
+use Rattle.bitrow.proofs.Rows.{remove-row}
+use borrow.Author.Needs.{needs}
+use Rattle.bitrow.proofs.without.Statement.{statement}
+use Rattle.bitrow.proofs.without.Tie as tie
+
+returns : tie.Need-returns
+returns c = remove-row _ _ (search needs) (c .pre)
+
+pub without-spec : {M : Type 1} → statement M
+without-spec = tie.close (tie.spec (λ c. search needs) (λ c. search needs) (λ c. search needs) (λ c. search needs) (λ c. search needs) returns)

@@ -1,0 +1,3 @@
+-- What the contracts of bitrow say.
+pub mod Set
+pub mod Bit

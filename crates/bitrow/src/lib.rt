@@ -1,0 +1,155 @@
+// Sets of numbers below 256, as four words of bits: number i is bit i % 64 of word i / 64.
+ghost use mathlib.Core.Path.{_≡_};
+ghost use mathlib.Core.Bool.{not};
+ghost use Prim.Native.Nat.{_<_, _%_, _-_};
+ghost use Rattle.bitrow.specs.Bit.{bit, bitAt};
+ghost use Rattle.bitrow.specs.Set.{nothing, under, atLeast, insert, remove, meet, join, less, hasSome, part, equal, size, lowestFrom};
+
+// What a search for a number of a set finds.
+pub enum Found {
+    At(usize),
+    Nothing,
+}
+
+pub fn none() -> [u64; 4]
+    ensures { λ r. ⌜ bitAt r ≡ nothing ⌝ }
+{
+    [0; 4]
+}
+
+pub fn all() -> [u64; 4]
+    ensures { λ r. ⌜ bitAt r ≡ under 256 ⌝ }
+{
+    [u64::MAX; 4]
+}
+
+// A word with its n low bits set.
+fn low_bits(n: usize) -> u64
+    ensures { λ r. ⌜ bit r ≡ meet (under n) (under 64) ⌝ }
+{
+    if n < 64 { (1u64 << n) - 1 } else { u64::MAX }
+}
+
+// i - n, or 0 where n is above i.
+fn saturating_sub(i: usize, n: usize) -> usize
+    ensures { λ r. ⌜ r ≡ i - n ⌝ }
+{
+    if n < i { i - n } else { 0 }
+}
+
+// The numbers below i.
+pub fn below(i: usize) -> [u64; 4]
+    ensures { λ r. ⌜ bitAt r ≡ meet (under i) (under 256) ⌝ }
+{
+    [
+        low_bits(i),
+        low_bits(saturating_sub(i, 64)),
+        low_bits(saturating_sub(i, 128)),
+        low_bits(saturating_sub(i, 192)),
+    ]
+}
+
+// The numbers from i on.
+pub fn at_least(i: usize) -> [u64; 4]
+    ensures { λ r. ⌜ bitAt r ≡ meet (atLeast i) (under 256) ⌝ }
+{
+    except(all(), below(i))
+}
+
+// Whether i is in a row, by that row's word i / 64 alone.
+pub fn bit_of(word: u64, i: usize) -> bool
+    ensures { λ r. ⌜ r ≡ bit word (i % 64) ⌝ }
+{
+    (word >> (i % 64)) & 1 == 1
+}
+
+pub fn has(row: [u64; 4], i: usize) -> bool
+    requires { ⌜ i < 256 ⌝ }
+    ensures { λ r. ⌜ r ≡ bitAt row i ⌝ }
+{
+    bit_of(row[i / 64], i)
+}
+
+pub fn with(row: [u64; 4], i: usize) -> [u64; 4]
+    requires { ⌜ i < 256 ⌝ }
+    ensures { λ r. ⌜ bitAt r ≡ insert i (bitAt row) ⌝ }
+{
+    let mut r = row;
+    let k = i / 64;
+    r[k] = r[k] | (1u64 << (i % 64));
+    r
+}
+
+pub fn without(row: [u64; 4], i: usize) -> [u64; 4]
+    requires { ⌜ i < 256 ⌝ }
+    ensures { λ r. ⌜ bitAt r ≡ remove i (bitAt row) ⌝ }
+{
+    let mut r = row;
+    let k = i / 64;
+    r[k] = r[k] & !(1u64 << (i % 64));
+    r
+}
+
+pub fn both(a: [u64; 4], b: [u64; 4]) -> [u64; 4]
+    ensures { λ r. ⌜ bitAt r ≡ meet (bitAt a) (bitAt b) ⌝ }
+{
+    [a[0] & b[0], a[1] & b[1], a[2] & b[2], a[3] & b[3]]
+}
+
+pub fn either(a: [u64; 4], b: [u64; 4]) -> [u64; 4]
+    ensures { λ r. ⌜ bitAt r ≡ join (bitAt a) (bitAt b) ⌝ }
+{
+    [a[0] | b[0], a[1] | b[1], a[2] | b[2], a[3] | b[3]]
+}
+
+// The numbers of a that are not in b.
+pub fn except(a: [u64; 4], b: [u64; 4]) -> [u64; 4]
+    ensures { λ r. ⌜ bitAt r ≡ less (bitAt a) (bitAt b) ⌝ }
+{
+    [a[0] & !b[0], a[1] & !b[1], a[2] & !b[2], a[3] & !b[3]]
+}
+
+pub fn is_empty(row: [u64; 4]) -> bool
+    ensures { λ r. ⌜ r ≡ not (hasSome (bitAt row)) ⌝ }
+{
+    row[0] | row[1] | row[2] | row[3] == 0
+}
+
+// Whether all of a is in b.
+pub fn within(a: [u64; 4], b: [u64; 4]) -> bool
+    ensures { λ r. ⌜ r ≡ part (bitAt a) (bitAt b) ⌝ }
+{
+    is_empty(except(a, b))
+}
+
+pub fn same(a: [u64; 4], b: [u64; 4]) -> bool
+    ensures { λ r. ⌜ r ≡ equal (bitAt a) (bitAt b) ⌝ }
+{
+    (a[0] == b[0]) & (a[1] == b[1]) & (a[2] == b[2]) & (a[3] == b[3])
+}
+
+pub fn count(row: [u64; 4]) -> u32
+    ensures { λ r. ⌜ r ≡ size (bitAt row) 256 ⌝ }
+{
+    u64::count_ones(row[0])
+        + u64::count_ones(row[1])
+        + u64::count_ones(row[2])
+        + u64::count_ones(row[3])
+}
+
+// The lowest number of the row at or above i.
+pub fn next_from(row: [u64; 4], i: usize) -> Found
+    ensures { λ r. ⌜ r ≡ lowestFrom (bitAt row) i ⌝ }
+{
+    let mut at = i;
+    while at < 256 {
+        let w = row[at / 64] >> (at % 64);
+        if w > 0 {
+            let zeros = u64::trailing_zeros(w) as usize;
+            let found = at + zeros;
+            return Found::At(found);
+        }
+        at = (at / 64 + 1) * 64;
+    }
+    Found::Nothing
+}
