@@ -1,0 +1,218 @@
+-- A memory that holds the contents of an acceptable registry says that registry; so does the registry's image. Assumes nothing.
+use mathlib.Core.Path.{_≡_, refl, sym, ap, _∙_, fun-ext}
+use mathlib.Core.Bool.{Bool, true, false, _&&_, cond}
+use mathlib.Core.List.{List}
+use mathlib.Core.Option.{none}
+use Prim.Native.Nat.{ℕ, zero, suc, _+_, _*_, _-_, _/_, _%_, _^_, _<_, _≤_}
+use native.Mathlib.Omega.{arith}
+use lib.Dec.{eqb, ltb, leb}
+use lib.ListN.{length, getD, List·getD-eq-default}
+use borrow.Author.Tests.{lt-ltb, le-ltb, eq-eqb, ne-eqb, leb-true, eqb-true}
+use Rattle.block.specs.Entry.{Settings}
+use Rattle.block.specs.Reader.{within}
+use Rattle.block.specs.Written.{validSettings}
+use Rattle.model.specs.Table.{Table, on, at, stands}
+use Rattle.model.specs.Model.{containerSlots, policySlots}
+use Rattle.model.specs.Registry.{Registry}
+use Rattle.store.specs.Layout.{memoryWords, rowsStart, containerStart, policyStart, selectedRow, allowedRow, wordAt, rowBit}
+use Rattle.store.specs.Contents.{Holds, tab}
+use Rattle.store.proofs.Cases.{by-ltb}
+use Rattle.store.proofs.Image.{is-tab, holds-image, image-holds, image-length}
+use Rattle.store.proofs.Image.{image-fits as image-words-fit}
+use Rattle.formed.specs.Words.{settingsWord, containerWord, policyWord, settingsIn, containerIn, policyIn}
+use Rattle.formed.specs.Registry.{modelIn, bitWithin, bitsIn, registryIn, entryWord, storedBit, contentsOf, image, Acceptable}
+use Rattle.formed.proofs.Tests.{clash, both, within-bounds}
+use Rattle.formed.proofs.Slots.{Words, container-back, policy-back, container-small, policy-small}
+
+-- ---- a slot that stands lies within its table
+
+pub stands-below : {A : Type 0} (t : Table A) (i : ℕ) → stands t i ≡ true → i < length t
+stands-below t i h =
+    by-ltb (λ u. i < length t) i (length t) (λ l. l) (λ g. clash (ap (on (λ x. true)) (sym (List·getD-eq-default t none g)) ∙ h))
+
+-- a bit that is read, where bits of no slot are clear
+within-back : (m : List ℕ) (n x r y : ℕ) (f : Bool) → (x < n → y < containerSlots → rowBit m r y ≡ f) → (f ≡ true → (x < n) × (y < containerSlots)) → bitWithin m n x r y ≡ f
+unfolding bitWithin
+within-back m n x r y f inside small =
+    by-ltb (λ t. (t && (ltb y containerSlots && rowBit m r y)) ≡ f) x n
+    (λ l. by-ltb (λ t. (t && rowBit m r y) ≡ f) y containerSlots (λ k. inside l k) (λ k. out f refl (λ g. let h = small g .1 in omega arith)))
+    (λ l. out f refl (λ g. let h = small g .0 in omega arith))
+  where
+    out : (t : Bool) → f ≡ t → (f ≡ true → ⊥) → false ≡ f
+    out true e n = absurd (n e)
+    out false e n = sym e
+
+-- ---- where each part of a registry's contents stands
+
+module _ (r : Registry) (m : List ℕ) (h : Holds m (contentsOf r)) where
+  pub entry-word : (k : ℕ) → k < rowsStart → wordAt m k ≡ entryWord (r .model) k
+  unfolding contentsOf
+  entry-word k l = h .words k l
+
+  stored-bit : (x y : ℕ) → x < 512 → y < containerSlots → rowBit m x y ≡ storedBit (r .bits) x y
+  unfolding contentsOf
+  stored-bit x y hx hy = h .bits x y hx hy
+
+  pub settings-words : (k : ℕ) → k < 3 → wordAt m k ≡ settingsWord (r .model .settings) k
+  unfolding entryWord
+  settings-words k l = entry-word k (omega arith) ∙ (rw (lt-ltb k 3 l))
+
+  pub container-words : (c : ℕ) → c < containerSlots → Words m (containerStart c) 9 (containerWord (at (r .model .containers) c))
+  unfolding entryWord
+  container-words c hc k hk =
+      let a : (containerStart c + k - 3) / 9 ≡ c = omega arith in
+      let b : (containerStart c + k - 3) % 9 ≡ k = omega arith in
+      entry-word (containerStart c + k) (omega arith)
+      ∙ (rw (le-ltb (containerStart c + k) 3 (omega arith), lt-ltb (containerStart c + k) 2307 (omega arith), a, b))
+
+  pub policy-words : (q : ℕ) → q < policySlots → Words m (policyStart q) 11 (policyWord (at (r .model .policies) q))
+  unfolding entryWord
+  policy-words q hq k hk =
+      let a : (policyStart q + k - 2307) / 11 ≡ q = omega arith in
+      let b : (policyStart q + k - 2307) % 11 ≡ k = omega arith in
+      entry-word (policyStart q + k) (omega arith)
+      ∙ (rw (le-ltb (policyStart q + k) 3 (omega arith), le-ltb (policyStart q + k) 2307 (omega arith), a, b))
+
+  pub matrix-bit : (a b : ℕ) → a < containerSlots → b < containerSlots → rowBit m a b ≡ r .bits .matrix a b
+  unfolding storedBit
+  matrix-bit a b ha hb = stored-bit a b (omega arith) hb ∙ (rw (lt-ltb a 256 ha))
+
+  pub selected-bit : (q c : ℕ) → q < policySlots → c < containerSlots → rowBit m (selectedRow q) c ≡ r .bits .selected q c
+  unfolding storedBit
+  selected-bit q c hq hc =
+      let e : (256 + 2 * q - 256) / 2 ≡ q = omega arith in
+      stored-bit (256 + 2 * q) c (omega arith) hc ∙ (rw (le-ltb (256 + 2 * q) 256 (omega arith), eq-eqb ((256 + 2 * q) % 2) 0 (omega arith), e))
+
+  pub allowed-bit : (q c : ℕ) → q < policySlots → c < containerSlots → rowBit m (allowedRow q) c ≡ r .bits .allowed q c
+  unfolding storedBit
+  allowed-bit q c hq hc =
+      let e : (257 + 2 * q - 256) / 2 ≡ q = omega arith in
+      stored-bit (257 + 2 * q) c (omega arith) hc ∙ (rw (le-ltb (257 + 2 * q) 256 (omega arith), ne-eqb ((257 + 2 * q) % 2) 0 (λ z. omega arith), e))
+
+-- ---- the registry is read back
+
+module _ (r : Registry) (ok : Acceptable r) (m : List ℕ) (h : Holds m (contentsOf r)) where
+  settings-back : settingsIn m ≡ r .model .settings
+  unfolding settingsIn
+  settings-back =
+      let a : wordAt m 0 ≡ r .model .settings .userKey = settings-words r m h 0 (omega arith) in
+      let b : wordAt m 1 ≡ r .model .settings .systemKey = settings-words r m h 1 (omega arith) in
+      let c : wordAt m 2 ≡ r .model .settings .systemValue = settings-words r m h 2 (omega arith) in
+      λ i. record { userKey = a i; systemKey = b i; systemValue = c i }
+
+  containers-back : tab containerSlots (containerIn m) ≡ r .model .containers
+  containers-back =
+      sym (is-tab containerSlots (containerIn m) (r .model .containers) none (ok .containers)
+      (λ c l. sym (container-back (r .model .settings) m c (at (r .model .containers) c) (ok .container c) (container-words r m h c l))))
+
+  policies-back : tab policySlots (policyIn m) ≡ r .model .policies
+  policies-back =
+      sym (is-tab policySlots (policyIn m) (r .model .policies) none (ok .policies)
+      (λ q l. sym (policy-back (r .model .settings) m q (at (r .model .policies) q) (ok .policy q) (policy-words r m h q l))))
+
+  model-back : modelIn m ≡ r .model
+  unfolding modelIn
+  model-back =
+      let s : settingsIn m ≡ r .model .settings = settings-back in
+      let c : tab containerSlots (containerIn m) ≡ r .model .containers = containers-back in
+      let p : tab policySlots (policyIn m) ≡ r .model .policies = policies-back in
+      λ i. record { settings = s i; containers = c i; policies = p i }
+
+  container-in : (c : ℕ) → stands (r .model .containers) c ≡ true → c < containerSlots
+  container-in c e = let l = stands-below (r .model .containers) c e in let n = ok .containers in omega arith
+
+  policy-in : (q : ℕ) → stands (r .model .policies) q ≡ true → q < policySlots
+  policy-in q e = let l = stands-below (r .model .policies) q e in let n = ok .policies in omega arith
+
+  matrix-back : (λ a b. bitWithin m containerSlots a a b) ≡ r .bits .matrix
+  matrix-back = fun-ext (λ a. fun-ext (λ b. within-back m containerSlots a a b (r .bits .matrix a b) (λ x y. matrix-bit r m h a b x y)
+      (λ e. let s = both _ _ (ok .matrix a b e) in (container-in a (s .0), container-in b (s .1)))))
+
+  selected-back : (λ q c. bitWithin m policySlots q (selectedRow q) c) ≡ r .bits .selected
+  selected-back = fun-ext (λ q. fun-ext (λ c. within-back m policySlots q (selectedRow q) c (r .bits .selected q c) (λ x y. selected-bit r m h q c x y)
+      (λ e. let s = both _ _ (ok .selected q c e) in (policy-in q (s .0), container-in c (s .1)))))
+
+  allowed-back : (λ q c. bitWithin m policySlots q (allowedRow q) c) ≡ r .bits .allowed
+  allowed-back = fun-ext (λ q. fun-ext (λ c. within-back m policySlots q (allowedRow q) c (r .bits .allowed q c) (λ x y. allowed-bit r m h q c x y)
+      (λ e. let s = both _ _ (ok .allowed q c e) in (policy-in q (s .0), container-in c (s .1)))))
+
+  bits-back : bitsIn m ≡ r .bits
+  unfolding bitsIn
+  bits-back =
+      let f : (λ a b. bitWithin m containerSlots a a b) ≡ r .bits .matrix = matrix-back in
+      let g : (λ q c. bitWithin m policySlots q (selectedRow q) c) ≡ r .bits .selected = selected-back in
+      let k : (λ q c. bitWithin m policySlots q (allowedRow q) c) ≡ r .bits .allowed = allowed-back in
+      λ i. record { matrix = f i; selected = g i; allowed = k i }
+
+  pub registry-back : registryIn m ≡ r
+  unfolding registryIn
+  registry-back =
+      let p : modelIn m ≡ r .model = model-back in
+      let s : bitsIn m ≡ r .bits = bits-back in
+      λ i. record { model = p i; bits = s i }
+
+-- ---- the image
+
+pub image-size : (r : Registry) → length (image r) ≡ memoryWords
+unfolding image
+image-size r = image-length (contentsOf r)
+
+pub image-contents : (r : Registry) → Holds (image r) (contentsOf r)
+unfolding image
+image-contents r = image-holds (contentsOf r)
+
+-- the memory of a registry says that registry
+pub registry-image : (r : Registry) → Acceptable r → registryIn (image r) ≡ r
+registry-image r ok = registry-back r ok (image r) (image-contents r)
+
+-- a memory is fixed by its registry, word for word
+pub image-inj : (r s : Registry) → Acceptable r → Acceptable s → image r ≡ image s → r ≡ s
+image-inj r s a b e = sym (registry-image r a) ∙ ap registryIn e ∙ registry-image s b
+
+-- a memory that holds a registry's contents is its image
+pub written : (r : Registry) (m : List ℕ) → Holds m (contentsOf r) → ((k : ℕ) → wordAt m k < 2 ^ 64) → m ≡ image r
+unfolding image
+written r m h fit = holds-image h fit
+
+-- ---- every word of an image fits 64 bits
+
+pub record SettingsBounds (s : Settings) : Type 0 where
+  pub user : (1 ≤ s .userKey) × (s .userKey ≤ 64)
+  pub key : s .systemKey ≤ 64
+  pub value : s .systemValue ≤ 65535
+
+pub settings-bounds : (s : Settings) → validSettings s ≡ true → SettingsBounds s
+unfolding validSettings
+settings-bounds s v =
+    let user = within 1 64 (s .userKey) in
+    let key = leb (s .systemKey) 64 in
+    let value = cond (eqb (s .systemKey) 0) (eqb (s .systemValue) 0) (within 1 65535 (s .systemValue)) in
+    let h = both user (key && value) v in
+    let g = both key value (h .1) in
+    record { user = within-bounds 1 64 (s .userKey) (h .0); key = leb-true (s .systemKey) 64 (g .0); value = small (eqb (s .systemKey) 0) (g .1) }
+  where
+    small : (t : Bool) → cond t (eqb (s .systemValue) 0) (within 1 65535 (s .systemValue)) ≡ true → s .systemValue ≤ 65535
+    small true e = omega (arith, eqb-true (s .systemValue) 0 e)
+    small false e = within-bounds 1 65535 (s .systemValue) e .1
+
+settings-small : (s : Settings) → SettingsBounds s → (k : ℕ) → settingsWord s k ≤ 2 ^ 23
+settings-small s b zero = omega arith
+settings-small s b (suc zero) = omega arith
+settings-small s b (suc (suc zero)) = omega arith
+settings-small s b (suc (suc (suc k))) = omega arith
+
+pub entry-small : (r : Registry) → Acceptable r → (k : ℕ) → entryWord (r .model) k ≤ 2 ^ 23
+unfolding entryWord
+entry-small r ok k =
+    let s = r .model .settings in
+    let x = at (r .model .containers) ((k - 3) / 9) in
+    let y = at (r .model .policies) ((k - 2307) / 11) in
+    by-ltb (λ t. cond t (settingsWord s k) (cond (ltb k 2307) (containerWord x ((k - 3) % 9)) (policyWord y ((k - 2307) % 11))) ≤ 2 ^ 23) k 3
+    (λ l. settings-small s (settings-bounds s (ok .settings)) k)
+    (λ l. by-ltb (λ t. cond t (containerWord x ((k - 3) % 9)) (policyWord y ((k - 2307) % 11)) ≤ 2 ^ 23) k 2307
+    (λ g. container-small s x (ok .container ((k - 3) / 9)) ((k - 3) % 9))
+    (λ g. policy-small s y (ok .policy ((k - 2307) / 11)) ((k - 2307) % 11)))
+
+pub image-fits : (r : Registry) → Acceptable r → (k : ℕ) → getD (image r) k 0 < 2 ^ 64
+unfolding image contentsOf
+image-fits r ok k = image-words-fit (contentsOf r) (λ j l. omega (arith, entry-small r ok j)) k

@@ -1,0 +1,71 @@
+-- A memory is well formed exactly if it is whole, says an acceptable registry, and is that registry's image. Assumes nothing.
+use mathlib.Core.Path.{_≡_, refl, sym, ap, ap₂, subst}
+use mathlib.Core.Bool.{true, _&&_}
+use mathlib.Core.Logic.{_↔_}
+use mathlib.Core.List.{List, [], _∷_}
+use Prim.Native.Nat.{ℕ}
+use lib.Dec.{eqb}
+use lib.ListN.{length}
+use borrow.Author.Tests.{eqb-true, eq-eqb}
+use Rattle.model.specs.Registry.{Registry}
+use Rattle.store.specs.Layout.{memoryWords, Whole}
+use Rattle.store.specs.Contents.{Holds}
+use Rattle.formed.specs.Registry.{registryIn, contentsOf, image, acceptable, Acceptable, sameWords, wellFormed}
+use Rattle.formed.proofs.Tests.{clash, both}
+use Rattle.formed.proofs.Back.{image-size, image-contents, registry-image}
+use Rattle.formed.proofs.Acceptable.{acceptable-test, test-acceptable}
+
+pub words-same : (a b : List ℕ) → sameWords a b ≡ true → a ≡ b
+words-same [] [] e = refl
+words-same [] (y ∷ b) e = clash e
+words-same (x ∷ a) [] e = clash e
+words-same (x ∷ a) (y ∷ b) e =
+    let h = both (eqb x y) (sameWords a b) e in
+    ap₂ (λ (n : ℕ) (l : List ℕ). n ∷ l) (eqb-true x y (h .0)) (words-same a b (h .1))
+
+pub same-self : (a : List ℕ) → sameWords a a ≡ true
+same-self [] = refl
+same-self (x ∷ a) = ap₂ _&&_ (eq-eqb x x refl) (same-self a)
+
+pub same-words : (a b : List ℕ) → a ≡ b → sameWords a b ≡ true
+same-words a b e = subst (λ (l : List ℕ). sameWords a l ≡ true) e (same-self a)
+
+pub record FormedMemory (m : List ℕ) : Type 0 where
+  pub whole : Whole m
+  pub acceptable : Acceptable (registryIn m)
+  pub canonical : image (registryIn m) ≡ m
+
+module _ (m : List ℕ) where
+  pub formed-memory : wellFormed m ≡ true → FormedMemory m
+  unfolding wellFormed
+  formed-memory e =
+      let h = both (eqb (length m) memoryWords) (acceptable (registryIn m) && sameWords (image (registryIn m)) m) e in
+      let g = both (acceptable (registryIn m)) (sameWords (image (registryIn m)) m) (h .1) in
+      record {
+        whole = eqb-true (length m) memoryWords (h .0);
+        acceptable = test-acceptable m (g .0);
+        canonical = words-same (image (registryIn m)) m (g .1);
+      }
+
+  pub memory-formed : FormedMemory m → wellFormed m ≡ true
+  unfolding wellFormed
+  memory-formed f =
+      ap₂ _&&_ (eq-eqb (length m) memoryWords (f .whole))
+      (ap₂ _&&_ (acceptable-test (registryIn m) (f .acceptable)) (same-words (image (registryIn m)) m (f .canonical)))
+
+  pub formed-exactly : (wellFormed m ≡ true) ↔ FormedMemory m
+  formed-exactly = (formed-memory, memory-formed)
+
+  pub formed-holds : wellFormed m ≡ true → Holds m (contentsOf (registryIn m))
+  formed-holds e =
+      subst (λ (l : List ℕ). Holds l (contentsOf (registryIn m))) (formed-memory e .canonical) (image-contents (registryIn m))
+
+-- the memory of an acceptable registry is well formed
+pub acceptable-image : (r : Registry) → Acceptable r → wellFormed (image r) ≡ true
+acceptable-image r ok =
+    let e = registry-image r ok in
+    memory-formed (image r) (record {
+      whole = image-size r;
+      acceptable = subst Acceptable (sym e) ok;
+      canonical = ap image e;
+    })

@@ -1,0 +1,18 @@
+-- The laws of what a memory says, for the proofs here and for callers'.
+pub mod Tests
+pub mod Parts
+pub mod Slots
+pub mod Back
+pub mod Acceptable
+pub mod Formed
+pub mod Reading
+pub mod Runs
+pub mod Standing
+pub mod Rows
+pub mod EntryTests
+pub mod TestsFormed
+pub mod PartLabels
+pub mod Trials
+pub mod Keys
+pub mod FreeSlots
+pub mod FormedEntries

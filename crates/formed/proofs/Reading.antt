@@ -1,0 +1,180 @@
+-- What a memory says at each slot, and what the words of a well-formed memory can be. Assumes nothing.
+use mathlib.Core.Path.{_≡_, refl, ap, _∙_, subst}
+use mathlib.Core.Bool.{true, not, _&&_, cond}
+use mathlib.Core.List.{List}
+use mathlib.Core.Option.{Option, none, some}
+use Prim.Native.Nat.{ℕ, suc, _+_, _^_, _<_, _≤_}
+use native.Mathlib.Omega.{arith}
+use lib.Dec.{eqb, ltb}
+use lib.ListN.{length}
+use borrow.Author.Tests.{lt-ltb, eq-eqb, ne-eqb}
+use Rattle.block.specs.Entry.{Container, Policy, Settings}
+use Rattle.model.specs.Table.{on, at, stands}
+use Rattle.model.specs.Model.{containerSlots, policySlots}
+use Rattle.store.specs.Layout.{memoryWords, rowsStart, containerStart, policyStart, selectedRow, allowedRow, wordAt, rowBit}
+use Rattle.store.specs.Contents.{tab}
+use Rattle.store.proofs.Cases.{by-ltb, by-eqb}
+use Rattle.store.proofs.Image.{getD-tab, tab-beyond}
+use Rattle.formed.specs.Words.{containerWord, policyWord, partWord, settingsIn, partIn, containerIn, policyAt, policyIn}
+use Rattle.formed.specs.Registry.{modelIn, bitWithin, bitsIn, registryIn, wellFormed}
+use Rattle.formed.proofs.Parts.{labels-few}
+use Rattle.formed.proofs.Slots.{Words, validContainer, validPolicy, valid-container, valid-policy, direction-small, first-word}
+use Rattle.formed.proofs.Back.{SettingsBounds, settings-bounds, container-words, policy-words, image-fits, entry-small, entry-word}
+use Rattle.formed.proofs.Formed.{formed-memory, formed-holds}
+
+-- ---- any memory: slots
+
+-- a table read from n slots: slot i is free where its head is 0
+module _ {A : Type 0} (n : ℕ) (head : ℕ → ℕ) (entry : ℕ → A) where
+  abbrev slots : ℕ → Option A
+  slots i = cond (eqb (head i) 0) none (some (entry i))
+
+  slots-stand : (i : ℕ) → stands (tab n slots) i ≡ (ltb i n && not (eqb (head i) 0))
+  slots-stand i =
+      by-ltb (λ t. stands (tab n slots) i ≡ (t && not (eqb (head i) 0))) i n
+      (λ l. ap (on (λ x. true)) (getD-tab n slots i none l) ∙ by-eqb (λ t. on (λ x. true) (cond t none (some (entry i))) ≡ not t) (head i) 0 (λ e. refl) (λ e. refl))
+      (λ l. ap (on (λ x. true)) (tab-beyond n slots i none l))
+
+module _ (m : List ℕ) where
+  pub container-slot : (c : ℕ) → c < containerSlots → at (modelIn m .containers) c ≡ containerIn m c
+  unfolding modelIn
+  container-slot c h = getD-tab containerSlots (containerIn m) c none h
+
+  pub container-beyond : (c : ℕ) → containerSlots ≤ c → at (modelIn m .containers) c ≡ none
+  unfolding modelIn
+  container-beyond c h = tab-beyond containerSlots (containerIn m) c none h
+
+  pub policy-slot : (q : ℕ) → q < policySlots → at (modelIn m .policies) q ≡ policyIn m q
+  unfolding modelIn
+  policy-slot q h = getD-tab policySlots (policyIn m) q none h
+
+  pub policy-beyond : (q : ℕ) → policySlots ≤ q → at (modelIn m .policies) q ≡ none
+  unfolding modelIn
+  policy-beyond q h = tab-beyond policySlots (policyIn m) q none h
+
+  pub container-stands : (c : ℕ) → stands (modelIn m .containers) c ≡ (ltb c containerSlots && not (eqb (wordAt m (containerStart c)) 0))
+  unfolding modelIn containerIn
+  container-stands c = slots-stand containerSlots (λ i. wordAt m (containerStart i)) (λ i. partIn m (containerStart i)) c
+
+  pub policy-stands : (q : ℕ) → stands (modelIn m .policies) q ≡ (ltb q policySlots && not (eqb (wordAt m (policyStart q)) 0))
+  unfolding modelIn policyIn
+  policy-stands q = slots-stand policySlots (λ i. wordAt m (policyStart i)) (policyAt m) q
+
+  -- by the head of the slot
+  pub container-free : (c : ℕ) → wordAt m (containerStart c) ≡ 0 → containerIn m c ≡ none
+  unfolding containerIn
+  container-free c e = rw (eq-eqb (wordAt m (containerStart c)) 0 e)
+
+  pub container-taken : (c : ℕ) → (wordAt m (containerStart c) ≡ 0 → ⊥) → containerIn m c ≡ some (partIn m (containerStart c))
+  unfolding containerIn
+  container-taken c n = rw (ne-eqb (wordAt m (containerStart c)) 0 n)
+
+  pub policy-free : (q : ℕ) → wordAt m (policyStart q) ≡ 0 → policyIn m q ≡ none
+  unfolding policyIn
+  policy-free q e = rw (eq-eqb (wordAt m (policyStart q)) 0 e)
+
+  pub policy-taken : (q : ℕ) → (wordAt m (policyStart q) ≡ 0 → ⊥) → policyIn m q ≡ some (policyAt m q)
+  unfolding policyIn
+  policy-taken q n = rw (ne-eqb (wordAt m (policyStart q)) 0 n)
+
+  -- ---- any memory: stored bits
+
+  bit-within : (n x r y : ℕ) → x < n → y < containerSlots → bitWithin m n x r y ≡ rowBit m r y
+  unfolding bitWithin
+  bit-within n x r y hx hy = rw (lt-ltb x n hx, lt-ltb y containerSlots hy)
+
+  pub matrix-in : (a b : ℕ) → a < containerSlots → b < containerSlots → bitsIn m .matrix a b ≡ rowBit m a b
+  unfolding bitsIn
+  matrix-in a b ha hb = bit-within containerSlots a a b ha hb
+
+  pub selected-in : (q c : ℕ) → q < policySlots → c < containerSlots → bitsIn m .selected q c ≡ rowBit m (selectedRow q) c
+  unfolding bitsIn
+  selected-in q c hq hc = bit-within policySlots q (selectedRow q) c hq hc
+
+  pub allowed-in : (q c : ℕ) → q < policySlots → c < containerSlots → bitsIn m .allowed q c ≡ rowBit m (allowedRow q) c
+  unfolding bitsIn
+  allowed-in q c hq hc = bit-within policySlots q (allowedRow q) c hq hc
+
+-- ---- a well-formed memory
+
+-- the heads of valid slots
+container-head : (s : Settings) (o : Option Container) → validContainer s o ≡ true → containerWord o 0 ≤ 9
+unfolding partWord
+container-head s none v = omega arith
+container-head s (some ls) v = omega (arith, labels-few 8 ls (valid-container s ls v))
+
+policy-heads : (s : Settings) (o : Option Policy) → validPolicy s o ≡ true → (policyWord o 0 ≤ 2) × (policyWord o 1 ≤ 5) × (policyWord o 6 ≤ 5)
+unfolding partWord
+policy-heads s none v = (omega arith, omega arith, omega arith)
+policy-heads s (some p) v =
+    let f = valid-policy s p v in
+    (direction-small (p .direction) .1, omega (arith, labels-few 4 (p .select) (f .select)), omega (arith, labels-few 4 (p .allow) (f .allow)))
+
+module _ (m : List ℕ) (ok : wellFormed m ≡ true) where
+  pub formed-whole : length m ≡ memoryWords
+  formed-whole = formed-memory m ok .whole
+
+  -- the words of each slot are those of what it holds
+  pub formed-container : (c : ℕ) → c < containerSlots → Words m (containerStart c) 9 (containerWord (containerIn m c))
+  unfolding registryIn
+  formed-container c h k l =
+      container-words (registryIn m) m (formed-holds m ok) c h k l ∙ ap (λ o. containerWord o k) (container-slot m c h)
+
+  pub formed-policy : (q : ℕ) → q < policySlots → Words m (policyStart q) 11 (policyWord (policyIn m q))
+  unfolding registryIn
+  formed-policy q h k l =
+      policy-words (registryIn m) m (formed-holds m ok) q h k l ∙ ap (λ o. policyWord o k) (policy-slot m q h)
+
+  -- ---- bounds for code that reads them
+
+  pub formed-settings : SettingsBounds (settingsIn m)
+  unfolding registryIn modelIn
+  formed-settings = settings-bounds (settingsIn m) (formed-memory m ok .acceptable .settings)
+
+  -- the head of a container is at most 9
+  pub formed-head : (c : ℕ) → c < containerSlots → wordAt m (containerStart c) ≤ 9
+  formed-head c h =
+      let r = registryIn m in
+      let o = at (r .model .containers) c in
+      omega (
+        arith,
+        first-word m (containerStart c) 8 (containerWord o) (container-words r m (formed-holds m ok) c h),
+        container-head (r .model .settings) o (formed-memory m ok .acceptable .container c),
+      )
+
+  module _ (q : ℕ) (h : q < policySlots) where
+    abbrev held : Option Policy
+    held = at (registryIn m .model .policies) q
+
+    held-words : Words m (policyStart q) 11 (policyWord held)
+    held-words = policy-words (registryIn m) m (formed-holds m ok) q h
+
+    held-heads : (policyWord held 0 ≤ 2) × (policyWord held 1 ≤ 5) × (policyWord held 6 ≤ 5)
+    held-heads = policy-heads (registryIn m .model .settings) held (formed-memory m ok .acceptable .policy q)
+
+    -- a policy's direction is 0, 1 or 2
+    pub formed-direction : wordAt m (policyStart q) ≤ 2
+    formed-direction = omega (arith, first-word m (policyStart q) 10 (policyWord held) held-words, held-heads .0)
+
+    -- the heads of its parts are at most 5
+    pub formed-parts : (wordAt m (policyStart q + 1) ≤ 5) × (wordAt m (policyStart q + 6) ≤ 5)
+    formed-parts = (omega (arith, held-words 1 (omega arith), held-heads .1), omega (arith, held-words 6 (omega arith), held-heads .2))
+
+    -- and at least 1 where the policy stands
+    pub formed-counts : (wordAt m (policyStart q) ≡ 0 → ⊥) → (1 ≤ wordAt m (policyStart q + 1)) × (1 ≤ wordAt m (policyStart q + 6))
+    unfolding partWord
+    formed-counts n =
+        let p = policyAt m q in
+        let e : policyIn m q ≡ some p = policy-taken m q n in
+        let s : wordAt m (policyStart q + 1) ≡ suc (length (p .select)) = formed-policy q h 1 (omega arith) ∙ ap (λ o. policyWord o 1) e in
+        let a : wordAt m (policyStart q + 6) ≡ suc (length (p .allow)) = formed-policy q h 6 (omega arith) ∙ ap (λ o. policyWord o 6) e in
+        (omega arith, omega arith)
+
+  -- a word before the rows is small, and every word fits
+  pub formed-small : (k : ℕ) → k < rowsStart → wordAt m k ≤ 2 ^ 23
+  formed-small k h = omega (arith, entry-word (registryIn m) m (formed-holds m ok) k h, entry-small (registryIn m) (formed-memory m ok .acceptable) k)
+
+  pub formed-fits : (k : ℕ) → wordAt m k < 2 ^ 64
+  formed-fits k =
+      let f = formed-memory m ok in
+      subst (λ (l : List ℕ). wordAt l k < 2 ^ 64) (f .canonical) (image-fits (registryIn m) (f .acceptable) k)

@@ -1,0 +1,113 @@
+-- Slots: what is read from a slot's words, and how large the words are. Assumes nothing.
+use mathlib.Core.Path.{_≡_, refl, sym, ap, _∙_}
+use mathlib.Core.Bool.{Bool, true, cond}
+use mathlib.Core.List.{List}
+use mathlib.Core.Option.{Option, none, some}
+use Prim.Native.Nat.{ℕ, zero, suc, _+_, _-_, _^_, _<_, _≤_}
+use native.Mathlib.Nat.{add-zero}
+use native.Mathlib.Omega.{arith}
+use lib.ListN.{length}
+use borrow.Author.Tests.{lt-ltb, le-ltb, eq-eqb, ne-eqb}
+use Rattle.block.specs.Entry.{Container, Direction, ingress, egress, Policy, Settings, container, policy}
+use Rattle.block.specs.Reader.{directionOf}
+use Rattle.block.specs.Written.{directionNumber, validLabels, validEntry}
+use Rattle.store.specs.Layout.{containerStart, policyStart, wordAt}
+use Rattle.store.proofs.Cases.{by-ltb}
+use Rattle.formed.specs.Words.{partWord, containerWord, policyWord, partIn, containerIn, policyAt, policyIn}
+use Rattle.formed.specs.Registry.{freeOr}
+use Rattle.formed.proofs.Tests.{both}
+use Rattle.formed.proofs.Parts.{part-back, part-small}
+
+pub valid-container : (s : Settings) (ls : Container) → validEntry s (container ls) ≡ true → validLabels 8 ls ≡ true
+unfolding validEntry
+valid-container s ls e = e
+
+pub record PolicyParts (p : Policy) : Type 0 where
+  pub select : validLabels 4 (p .select) ≡ true
+  pub allow : validLabels 4 (p .allow) ≡ true
+
+pub valid-policy : (s : Settings) (p : Policy) → validEntry s (policy p) ≡ true → PolicyParts p
+unfolding validEntry
+valid-policy s p e = let h = both (validLabels 4 (p .select)) (validLabels 4 (p .allow)) e in record { select = h .0; allow = h .1 }
+
+pub direction-back : (d : Direction) → directionOf (directionNumber d) ≡ d
+unfolding directionOf
+direction-back ingress = refl
+direction-back egress = refl
+
+pub direction-small : (d : Direction) → (1 ≤ directionNumber d) × (directionNumber d ≤ 2)
+direction-small ingress = (omega arith, omega arith)
+direction-small egress = (omega arith, omega arith)
+
+-- ---- containers
+
+abbrev pub validContainer : Settings → Option Container → Bool
+validContainer s o = freeOr (λ x. validEntry s (container x)) o
+
+abbrev pub validPolicy : Settings → Option Policy → Bool
+validPolicy s o = freeOr (λ x. validEntry s (policy x)) o
+
+-- the words from position p on are f's, n of them
+abbrev pub Words : List ℕ → ℕ → ℕ → (ℕ → ℕ) → Type 0
+Words m p n f = (k : ℕ) → k < n → wordAt m (p + k) ≡ f k
+
+pub first-word : (m : List ℕ) (p n : ℕ) (f : ℕ → ℕ) → Words m p (suc n) f → wordAt m p ≡ f 0
+first-word m p n f w = ap (λ k. wordAt m k) (sym (add-zero p)) ∙ w 0 (omega arith)
+
+module _ (s : Settings) (m : List ℕ) (c : ℕ) where
+  -- a slot whose words are those of a container that is valid holds it
+  pub container-back : (o : Option Container) → validContainer s o ≡ true → Words m (containerStart c) 9 (containerWord o) → containerIn m c ≡ o
+  unfolding containerIn partWord
+  container-back none v w = rw (eq-eqb (wordAt m (containerStart c)) 0 (first-word m (containerStart c) 8 (containerWord none) w))
+  container-back (some ls) v w =
+      let n : wordAt m (containerStart c) ≡ suc (length ls) = first-word m (containerStart c) 8 (containerWord (some ls)) w in
+      rw (ne-eqb (wordAt m (containerStart c)) 0 (λ z. omega arith))
+      (ap some (part-back 8 ls (valid-container s ls v) m (containerStart c) (λ j h. w j (omega arith))))
+
+pub container-small : (s : Settings) (o : Option Container) → validContainer s o ≡ true → (k : ℕ) → containerWord o k ≤ 2 ^ 23
+container-small s none v k = omega arith
+container-small s (some ls) v k = part-small 8 ls (valid-container s ls v) (omega arith) k
+
+-- ---- policies
+
+module _ (m : List ℕ) (q : ℕ) (p : Policy) (w : Words m (policyStart q) 11 (policyWord (some p))) where
+  direction-word : wordAt m (policyStart q) ≡ directionNumber (p .direction)
+  direction-word = first-word m (policyStart q) 10 (policyWord (some p)) w
+
+  select-words : Words m (policyStart q + 1) 5 (partWord (p .select))
+  select-words j h =
+      let e : policyStart q + 1 + j ≡ policyStart q + suc j = omega arith in
+      ap (λ k. wordAt m k) e ∙ w (suc j) (omega arith) ∙ (rw (lt-ltb j 5 (omega arith)))
+
+  allow-words : Words m (policyStart q + 6) 5 (partWord (p .allow))
+  allow-words j h =
+      let e : policyStart q + 6 + j ≡ policyStart q + suc (5 + j) = omega arith in
+      let i : 5 + j - 5 ≡ j = omega arith in
+      ap (λ k. wordAt m k) e ∙ w (suc (5 + j)) (omega arith) ∙ (rw (le-ltb (5 + j) 5 (omega arith), i))
+
+  policy-at-back : PolicyParts p → policyAt m q ≡ p
+  unfolding policyAt
+  policy-at-back f =
+      let d : directionOf (wordAt m (policyStart q)) ≡ p .direction = ap directionOf direction-word ∙ direction-back (p .direction) in
+      let s : partIn m (policyStart q + 1) ≡ p .select = part-back 4 (p .select) (f .select) m (policyStart q + 1) select-words in
+      let a : partIn m (policyStart q + 6) ≡ p .allow = part-back 4 (p .allow) (f .allow) m (policyStart q + 6) allow-words in
+      λ i. record { direction = d i; select = s i; allow = a i }
+
+  policy-stands : wordAt m (policyStart q) ≡ 0 → ⊥
+  policy-stands z = let n = direction-word in let d = direction-small (p .direction) in omega arith
+
+module _ (s : Settings) (m : List ℕ) (q : ℕ) where
+  pub policy-back : (o : Option Policy) → validPolicy s o ≡ true → Words m (policyStart q) 11 (policyWord o) → policyIn m q ≡ o
+  unfolding policyIn
+  policy-back none v w = rw (eq-eqb (wordAt m (policyStart q)) 0 (first-word m (policyStart q) 10 (policyWord none) w))
+  policy-back (some p) v w =
+      rw (ne-eqb (wordAt m (policyStart q)) 0 (policy-stands m q p w)) (ap some (policy-at-back m q p w (valid-policy s p v)))
+
+pub policy-small : (s : Settings) (o : Option Policy) → validPolicy s o ≡ true → (k : ℕ) → policyWord o k ≤ 2 ^ 23
+policy-small s none v k = omega arith
+policy-small s (some p) v zero = let d = direction-small (p .direction) in omega arith
+policy-small s (some p) v (suc k) =
+    let f = valid-policy s p v in
+    by-ltb (λ t. cond t (partWord (p .select) k) (partWord (p .allow) (k - 5)) ≤ 2 ^ 23) k 5
+    (λ h. part-small 4 (p .select) (f .select) (omega arith) k)
+    (λ h. part-small 4 (p .allow) (f .allow) (omega arith) (k - 5))

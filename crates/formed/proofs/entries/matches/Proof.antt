@@ -1,0 +1,48 @@
+use native.Mathlib.Omega.{arith}
+use mathlib.Core.Path.{_≡_, sym, _∙_}
+use Prim.Native.Nat.{_-_}
+use borrow.Author.Tests.{not-true, not-false}
+use Rattle.model.specs.Rules.{matches as matchesPart}
+use Rattle.formed.specs.Words.{partIn}
+use Rattle.formed.proofs.PartLabels.{labelsFrom, matches-part, matches-fail, matches-skip, matches-done}
+use borrow.Author.Needs.{needs}
+use Rattle.formed.proofs.entries.matches.Statement.{statement}
+use Rattle.formed.proofs.entries.matches.Tie as tie
+
+abbrev Inv-loop : tie.InvT-loop
+Inv-loop memory part at end i₀ i = matchesPart (partIn memory part) (partIn memory at) ≡ matchesPart (labelsFrom memory i end) (partIn memory at)
+
+abbrev μ-loop : tie.MeasureT-loop
+μ-loop memory part at end i₀ i = end - i
+
+loop-holds : tie.Need-loop-holds Inv-loop μ-loop
+loop-holds c = matches-part _ _ _
+
+returns : tie.Need-returns Inv-loop μ-loop
+returns c = let l = c .before .before .before .before .loop in sym (l .inv ∙ matches-fail _ _ (l .i) _ (omega arith) (sym (c .before .carries .ensures) ∙ not-true _ (c .if1 .taken)))
+
+loop-again : tie.Need-loop-again Inv-loop μ-loop
+loop-again c = let l = c .before .before .before .before .loop in l .inv ∙ matches-skip _ _ (l .i) _ (omega arith) (sym (c .before .carries .ensures) ∙ not-false _ (c .if1 .left))
+
+returns-2 : tie.Need-returns-2 Inv-loop μ-loop
+returns-2 c = let l = c .before .loop in sym (l .inv ∙ matches-done _ _ (l .i) _ (omega arith))
+
+pub matches-spec : {M : Type 1} → statement M
+matches-spec =
+    tie.close
+    (tie.spec
+    Inv-loop
+    μ-loop
+    (λ c. search needs)
+    (λ c. search needs)
+    (λ c. search needs)
+    (λ c. search needs)
+    loop-holds
+    (λ c. search needs)
+    (λ c. search needs)
+    (λ c κs. search needs)
+    returns
+    (λ c. search needs)
+    (λ c. search needs)
+    loop-again
+    returns-2)

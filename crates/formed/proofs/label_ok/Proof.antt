@@ -1,0 +1,10 @@
+use Rattle.formed.specs.Tests.{labelOk}
+use Rattle.formed.proofs.label_ok.Statement.{statement}
+use Rattle.formed.proofs.label_ok.Tie as tie
+
+returns : tie.Need-returns
+unfolding labelOk
+returns c = cc
+
+pub label-ok-spec : {M : Type 1} → statement M
+label-ok-spec = tie.close (tie.spec returns)

@@ -1,0 +1,11 @@
+use Rattle.formed.proofs.Standing.{policies-row}
+use borrow.Author.Needs.{needs}
+use Rattle.formed.proofs.policies_standing.Statement.{statement}
+use Rattle.formed.proofs.policies_standing.Tie as tie
+
+returns : tie.Need-returns
+returns c = policies-row (c .before .before .before .args .memory .now) _ _ (c .before .standing-word .ensures) (c .standing-word2 .ensures)
+
+pub policies-standing-spec : {M : Type 1} → statement M
+policies-standing-spec =
+    tie.close (tie.spec (λ c κs. search needs) (λ c. search needs) (λ c κs. search needs) returns)

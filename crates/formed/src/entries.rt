@@ -1,0 +1,132 @@
+// Entries read from memory: labels of parts, the trial of a part, the search for a free slot.
+ghost use mathlib.Core.Path.{_≡_};
+ghost use Prim.Native.Nat.{_+_, _*_, _-_, _≤_, _<_};
+ghost use lib.ListN.{length};
+ghost use Rattle.bitrow.specs.Bit.{bitAt};
+ghost use Rattle.bitrow.specs.Set.{firstOf};
+ghost use Rattle.model.specs.Rules.{carries as carriesLabel, matches as matchesPart};
+ghost use Rattle.model.specs.Table.{lowestFree};
+ghost use Rattle.store.specs.Layout.{Whole};
+ghost use Rattle.formed.specs.Words.{labelIn, partIn};
+ghost use Rattle.formed.specs.Registry.{modelIn};
+ghost use Rattle.formed.specs.Entries.{PartWithin, HeadsBound, trialSet, wordUnder, freeIn, SlotsWithin, freeContainer, freePolicy};
+use bitrow::Found;
+use model::ContainerSlot;
+use model::PolicySlot;
+
+// The lowest free container slot, or none.
+pub enum FreeContainer {
+    At(ContainerSlot),
+    Full,
+}
+
+// The lowest free policy slot, or none.
+pub enum FreePolicy {
+    At(PolicySlot),
+    Full,
+}
+
+// Whether the part whose header is at `at` has the label that is this word.
+pub fn carries(memory: &[u64], at: usize, word: u64) -> bool
+    requires { ⌜ PartWithin (now memory) at ⌝ }
+    ensures { λ r. ⌜ r ≡ carriesLabel (partIn (now (memory .entry)) at) (labelIn word) ⌝ }
+{
+    let end = at + memory[at] as usize;
+    let mut i = at + 1;
+    while i < end {
+        if memory[i] == word {
+            return true;
+        }
+        i += 1;
+    }
+    false
+}
+
+// Whether the part whose header is at `at` has every label of the part whose header is at `part`.
+pub fn matches(memory: &[u64], part: usize, at: usize) -> bool
+    requires { ⌜ PartWithin (now memory) part × PartWithin (now memory) at ⌝ }
+    ensures { λ r. ⌜ r ≡ matchesPart (partIn (now (memory .entry)) part) (partIn (now (memory .entry)) at) ⌝ }
+{
+    let end = part + memory[part] as usize;
+    let mut i = part + 1;
+    while i < end {
+        if !carries(memory, at, memory[i]) {
+            return false;
+        }
+        i += 1;
+    }
+    true
+}
+
+// The trial of a part: those of the candidates that carry every label of it.
+pub fn trial(memory: &[u64], part: usize, candidates: [u64; 4]) -> [u64; 4]
+    requires { ⌜ Whole (now memory) × PartWithin (now memory) part × HeadsBound (now memory) ⌝ }
+    ensures { λ r. ⌜ bitAt r ≡ trialSet (now (memory .entry)) part (bitAt candidates) ⌝ }
+{
+    let mut chosen = bitrow::none();
+    let mut from = 0;
+    loop {
+        let found = bitrow::next_from(candidates, from);
+        let Found::At(c) = found else {
+            return chosen;
+        };
+        from = c + 1;
+        if matches(memory, part, store::CONTAINERS + 9 * c) {
+            let next = bitrow::with(chosen, c);
+            chosen = next;
+        }
+    }
+}
+
+// The word of the label under this key of the part whose header is at `at`, 0 where it has none.
+pub fn word_under(memory: &[u64], at: usize, key: u64) -> u64
+    requires { ⌜ PartWithin (now memory) at ⌝ }
+    ensures { λ r. ⌜ r ≡ wordUnder key (partIn (now (memory .entry)) at) ⌝ }
+{
+    let end = at + memory[at] as usize;
+    let mut i = at + 1;
+    while i < end {
+        let word = memory[i];
+        if word / 65536 == key {
+            return word;
+        }
+        i += 1;
+    }
+    0
+}
+
+// This slot if it is free, else the search among the rest. A slot of `words` words is free if its first word is 0.
+fn lowest_free(memory: &[u64], start: usize, words: usize, slot: usize, slots: usize) -> Found
+    requires { ⌜ SlotsWithin (now memory) start words slots ⌝ }
+    ensures { λ r. ⌜ r ≡ firstOf (freeIn (now (memory .entry)) start words) slot (slots - slot) ⌝ }
+{
+    if slots <= slot {
+        return Found::Nothing;
+    }
+    if memory[start + words * slot] == 0 {
+        return Found::At(slot);
+    }
+    lowest_free(memory, start, words, slot + 1, slots)
+}
+
+pub fn free_container(memory: &[u64]) -> FreeContainer
+    requires { ⌜ Whole (now memory) ⌝ }
+    ensures { λ r. ⌜ r ≡ freeContainer (lowestFree (modelIn (now (memory .entry)) .containers)) ⌝ }
+{
+    let found = lowest_free(memory, store::CONTAINERS, 9, 0, 256);
+    match found {
+        Found::At(i) => FreeContainer::At(ContainerSlot(i)),
+        Found::Nothing => FreeContainer::Full,
+    }
+}
+
+pub fn free_policy(memory: &[u64]) -> FreePolicy
+    requires { ⌜ Whole (now memory) ⌝ }
+    ensures { λ r. ⌜ r ≡ freePolicy (lowestFree (modelIn (now (memory .entry)) .policies)) ⌝ }
+{
+    let found = lowest_free(memory, store::POLICIES, 11, 0, 128);
+    match found {
+        Found::At(i) => FreePolicy::At(PolicySlot(i)),
+        Found::Nothing => FreePolicy::Full,
+    }
+}

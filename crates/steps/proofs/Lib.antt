@@ -1,0 +1,7 @@
+-- The laws of each outcome, and demand 3.
+pub mod Outcomes
+pub mod Refused
+pub mod Valid
+pub mod Refinement
+pub mod Walk
+pub mod Listed

@@ -1,0 +1,152 @@
+-- Demand 3: over every list of calls the memory's steps answer as the model's, and leave the image of the model left. Assumes nothing.
+use mathlib.Core.Path.{_≡_, refl, sym, ap, subst, _∙_}
+use mathlib.Core.Bool.{Bool, true, false, cond}
+use mathlib.Core.List.{List, [], _∷_}
+use mathlib.Core.Option.{Option, none, some}
+use Prim.Native.Nat.{ℕ, zero, suc, _≤_}
+use native.Mathlib.Omega.{arith}
+use lib.ListN.{length}
+use Rattle.block.specs.Entry.{Settings}
+use Rattle.block.specs.Refusal.{Refusal, firstRefusal, accepted}
+use Rattle.block.specs.Refusal.{unlessRefused as readUnless}
+use Rattle.block.specs.Reader.{settingsChecks, settingsIn, readSettings}
+use Rattle.block.proofs.Accepted.{settings-valid}
+use Rattle.model.specs.declared.Finding.{Finding}
+use Rattle.model.specs.declared.Cursor.{Cursor}
+use Rattle.model.specs.Findings.{placeOf, nextAfter, findings, start, walk}
+use Rattle.model.specs.Model.{Model, empty, computedBits}
+use Rattle.model.specs.Calls.{Call, openWith, admit, removeContainer, removePolicy, askReaches, askUser, nextFinding, counts, rebuild, audit}
+use Rattle.model.specs.Calls.{Answer, refusal, done, foundAnswer}
+use Rattle.model.specs.ModelStep.{modelStep}
+use Rattle.model.specs.Registry.{Registry, computed}
+use Rattle.model.specs.Refusals.{refusals}
+use Rattle.model.specs.RegistryStep.{acceptedStep, unlessRefused, registryStep}
+use Rattle.model.proofs.Unchanged.{opened-computed}
+use Rattle.model.proofs.Agreement.{Sized, asComputed, step-agrees, sized-empty, sized-step}
+use Rattle.model.proofs.Next.{walk-meets-all}
+use Rattle.store.specs.Layout.{memoryWords}
+use Rattle.formed.specs.Registry.{modelIn, bitsIn, registryIn, image, Acceptable, wellFormed}
+use Rattle.formed.proofs.Back.{registry-image}
+use Rattle.formed.proofs.Formed.{acceptable-image}
+use Rattle.steps.specs.MemoryStep.{changes, memoryOutcome, memoryStep}
+use Rattle.steps.specs.Refinement.{Lending, ours, other, Seen, onMemory, onModel, followed, modelFindings, walkOn, Refined, Refinement}
+use Rattle.steps.proofs.Outcomes.{step-size, step-past, open-past, open-done}
+use Rattle.steps.proofs.Valid.{Valid, acceptable-computed, valid-empty, valid-step}
+
+-- ---- one call
+
+abbrev imaged : {A : Type 0} → Registry × A → List ℕ × A
+imaged r = (image (r .0), r .1)
+
+-- what a call that is not refused leaves: a query leaves its registry
+changed : (r : Registry) (call : Call) → (cond (changes call) (image (acceptedStep r call .0)) (image r), acceptedStep r call .1) ≡ imaged (acceptedStep r call)
+unfolding acceptedStep
+changed r (openWith b) = refl
+changed r (admit b) = refl
+changed r (removeContainer c) = refl
+changed r (removePolicy q) = refl
+changed r (askReaches a b) = refl
+changed r (askUser c v) = refl
+changed r (nextFinding c) = refl
+changed r counts = refl
+changed r rebuild = refl
+changed r audit = refl
+
+outcome-image : (r : Registry) (call : Call) (o : Option Refusal) → registryIn (image r) ≡ r
+    → memoryOutcome (image r) call o ≡ imaged (unlessRefused r call o)
+unfolding unlessRefused
+outcome-image r call none e =
+    ap (λ (v : Registry). (cond (changes call) (image (acceptedStep v call .0)) (image r), acceptedStep v call .1)) e ∙ changed r call
+outcome-image r call (some f) e = refl
+
+-- The step on the memory of an acceptable registry is the registry's step.
+pub step-image : (r : Registry) → Acceptable r → (call : Call) → memoryStep (image r) call ≡ imaged (registryStep r call)
+unfolding registryStep
+step-image r a call =
+    let e = registry-image r a in
+    step-past (image r) (acceptable-image r a) call
+    ∙ ap (λ (v : Registry). memoryOutcome (image r) call (firstRefusal (refusals v call))) e
+    ∙ outcome-image r call (firstRefusal (refusals r call)) e
+
+-- What holds of the model after each call.
+pub record Good (m : Model) : Type 0 where
+  pub sized : Sized m
+  pub valid : Valid m
+
+good-image : (m : Model) → Good m → Acceptable (computed m)
+good-image m g = acceptable-computed m (g .sized) (g .valid)
+
+good-step : (m : Model) → Good m → (call : Call) → Good (modelStep m call .0)
+good-step m g call = record { sized = sized-step m (g .sized) call; valid = valid-step m (g .valid) call }
+
+-- the memory of a model whose bits are computed, and what was answered
+abbrev left : {A : Type 0} → Model × A → List ℕ × A
+left r = (image (computed (r .0)), r .1)
+
+pub step-refines : (m : Model) → Good m → (call : Call) → memoryStep (image (computed m)) call ≡ left (modelStep m call)
+step-refines m g call = step-image (computed m) (good-image m g) call ∙ ap imaged (step-agrees m (g .sized) call)
+
+-- ---- every list of calls
+
+pub run-refines : (m : Model) → Good m → (calls : List Lending) → onMemory (image (computed m)) calls ≡ left (onModel m calls)
+unfolding onMemory onModel
+run-refines m g [] = refl
+run-refines m g (ours call ∷ calls) = rw (step-refines m g call, run-refines (modelStep m call .0) (good-step m g call) calls)
+run-refines m g (other x e call ∷ calls) = rw (step-size x call e, run-refines m g calls)
+
+good-run : (m : Model) → Good m → (calls : List Lending) → Good (onModel m calls .0)
+unfolding onModel
+good-run m g [] = g
+good-run m g (ours call ∷ calls) = good-run (modelStep m call .0) (good-step m g call) calls
+good-run m g (other x e call ∷ calls) = good-run m g calls
+
+-- ---- the walk
+
+-- an answer of next finding, followed: the walk's step
+followed-is : (o : Option Finding) (f g : Cursor → List Finding) → ((c : Cursor) → f c ≡ g c)
+    → followed (foundAnswer o) f ≡ elim o [ none ↦ [] | some x ↦ x ∷ g (placeOf x) ]
+followed-is none f g h = refl
+followed-is (some x) f g h = ap (λ l. x ∷ l) (h (placeOf x))
+
+walk-refines : (m : Model) → Good m → (n : ℕ) (c : Cursor) → walkOn (image (computed m)) n c ≡ walk (nextAfter m (computedBits m)) n c
+unfolding walkOn modelStep
+walk-refines m g zero c = refl
+walk-refines m g (suc n) c =
+    ap (λ (r : List ℕ × Answer). followed (r .1) (walkOn (image (computed m)) n)) (step-refines m g (nextFinding c))
+    ∙ followed-is (nextAfter m (computedBits m) c) (walkOn (image (computed m)) n) (walk (nextAfter m (computedBits m)) n) (walk-refines m g n)
+
+-- ---- the theorem
+
+-- from the memory of a good model
+refined : (s : Settings) → Good (empty s) → (calls : List Lending) → Refined s (image (computed (empty s))) calls
+unfolding registryIn computed
+refined s g calls =
+    let e = run-refines (empty s) g calls in
+    let m = onModel (empty s) calls .0 in
+    let k = good-run (empty s) g calls in
+    let h = registry-image (computed m) (good-image m k) in
+    record {
+      answers = ap (λ r. r .1) e;
+      entries = ap (λ r. modelIn (r .0)) e ∙ ap (λ r. r .model) h;
+      bits = ap (λ r. bitsIn (r .0)) e ∙ ap (λ r. r .bits) h;
+      walk = λ n l. ap (λ r. walkOn (r .0) n start) e ∙ walk-refines m k n start ∙ walk-meets-all m (computedBits m) n l;
+      formed = ap (λ r. wellFormed (r .0)) e ∙ acceptable-image (computed m) (good-image m k);
+    }
+
+-- an open that answers done has read its block
+open-read : (m b : List ℕ) → length m ≡ memoryWords → memoryStep m (openWith b) .1 ≡ done → readSettings b ≡ accepted (settingsIn b)
+unfolding readSettings
+open-read m b whole e = pick (firstRefusal (settingsChecks b)) (sym (ap (λ r. r .1) (open-past m b whole)) ∙ e)
+  where
+    pick : (o : Option Refusal) → memoryOutcome m (openWith b) o .1 ≡ done → readUnless o (settingsIn b) ≡ accepted (settingsIn b)
+    pick none h = refl
+    pick (some f) h = cc
+
+-- Demand 3, whole.
+pub refinement : Refinement
+unfolding Refinement
+refinement m b whole e calls =
+    let s = settingsIn b in
+    let h = open-read m b whole e in
+    let o : image (computed (empty s)) ≡ memoryStep m (openWith b) .0 = sym (ap (λ r. r .0) (open-done m b whole s h) ∙ ap image (opened-computed s)) in
+    subst (λ x. Refined s x calls) o (refined s (record { sized = sized-empty s; valid = valid-empty s (settings-valid b s h) }) calls)

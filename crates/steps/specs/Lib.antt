@@ -1,0 +1,4 @@
+-- The definition that every exported promise cites, and the theorem over it.
+pub mod MemoryStep
+pub mod Refinement
+pub mod Listed

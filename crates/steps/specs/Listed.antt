@@ -1,0 +1,168 @@
+-- One list of calls of every kind, with the refusals 1 and 3 to 12 among them, and the answers that document 01 gives them. Assumes nothing.
+use mathlib.Core.Path.{_≡_, refl, sym, _∙_}
+use mathlib.Core.Bool.{true, false}
+use mathlib.Core.List.{List, [], _∷_, _++_, map}
+use mathlib.Core.Option.{Option, none, some}
+use Prim.Native.Nat.{ℕ, zero, suc}
+use lib.Dec.{eqb}
+use lib.ListN.{length, replicate, length-replicate}
+use borrow.Author.Tests.{eqb-false}
+use Rattle.block.specs.Entry.{Label, Direction, ingress, egress, Settings, Entry, container, policy}
+use Rattle.block.specs.Written.{sealed, blockOf, settingsBlock}
+use Rattle.model.specs.declared.Cursor.{Cursor}
+use Rattle.model.specs.Findings.{finding, start}
+use Rattle.model.specs.Stars.{label, policyTo}
+use Rattle.model.specs.Calls.{Call, openWith, admit, removeContainer, removePolicy, askReaches, askUser, nextFinding, counts, rebuild, audit}
+use Rattle.model.specs.Calls.{Answer, refusal, done, containerAt, policyAt, says, found, noFinding, counted}
+use Rattle.store.specs.Layout.{memoryWords}
+use Rattle.steps.specs.Refinement.{Lending, ours, other, Seen}
+
+-- A call of the list and its answer: lent our memory, or as many words of zero as are not our size.
+pub record Line : Type 0 where
+  pub call : Lending
+  pub seen : Seen
+
+abbrev pub line : Call → Answer → Line
+line call a = record { call = ours call; seen = record { answer = a; other = none } }
+
+pub zeros : (n : ℕ) → eqb n memoryWords ≡ false → length {A = ℕ} (replicate n 0) ≡ memoryWords → ⊥
+zeros n h e = eqb-false n memoryWords h (sym (length-replicate {A = ℕ} n 0) ∙ e)
+
+abbrev pub lineAt : (n : ℕ) → eqb n memoryWords ≡ false → Call → Line
+lineAt n h call = record {
+  call = other (replicate n 0) (zeros n h) call;
+  seen = record { answer = refusal 1; other = some (replicate n 0) };
+}
+
+-- ---- the blocks
+
+abbrev pub containerOf : List Label → Call
+containerOf ls = admit (blockOf (container ls))
+
+abbrev pub policyOf : Direction → List Label → List Label → Call
+policyOf d s a = admit (blockOf (policy (policyTo d s a)))
+
+abbrev pub noLabels : Entry
+noLabels = policy (policyTo ingress [] [])
+
+-- "Input: settings user key 1, system 2=9"
+abbrev pub printedSettings : Settings
+printedSettings = record { userKey = 1; systemKey = 2; systemValue = 9 }
+
+abbrev pub otherSettings : Settings
+otherSettings = record { userKey = 3; systemKey = 0; systemValue = 0 }
+
+-- one byte short
+unfoldable pub shortBlock : List ℕ
+shortBlock = replicate 511 0
+
+-- a checksum of 0, where 67 is right
+unfoldable pub uncheckedBlock : List ℕ
+uncheckedBlock = 67 ∷ replicate 511 0
+
+-- no kind of entry
+unfoldable pub kindBlock : List ℕ
+kindBlock = sealed (83 ∷ 1 ∷ [])
+
+-- nine labels
+unfoldable pub nineBlock : List ℕ
+nineBlock = sealed (67 ∷ 9 ∷ [])
+
+-- value 0 and falling keys: 7, not 8
+unfoldable pub valueBlock : List ℕ
+valueBlock = sealed (67 ∷ 2 ∷ 0 ∷ 0 ∷ 0 ∷ 3 ∷ 0 ∷ 1 ∷ 0 ∷ 1 ∷ 0 ∷ 0 ∷ [])
+
+-- one key twice
+unfoldable pub orderBlock : List ℕ
+orderBlock = sealed (80 ∷ 2 ∷ 0 ∷ 2 ∷ 0 ∷ 3 ∷ 0 ∷ 1 ∷ 0 ∷ 3 ∷ 0 ∷ 2 ∷ [])
+
+-- byte 3 of a container
+unfoldable pub unusedBlock : List ℕ
+unusedBlock = sealed (67 ∷ 0 ∷ 0 ∷ 1 ∷ [])
+
+-- settings of user key 65
+unfoldable pub keyBlock : List ℕ
+keyBlock = sealed (83 ∷ 65 ∷ [])
+
+abbrev pub cursor : ℕ → ℕ → ℕ → Cursor
+cursor k a b = record { kind = k; a = a; b = b }
+
+abbrev pub meets : ℕ → ℕ → ℕ → Answer
+meets k a b = found (finding k a b) (cursor k a b)
+
+-- ---- the list, after an open with the printed settings
+
+-- n policies without labels, from slot i on
+abbrev pub filling : ℕ → ℕ → List Line
+filling i zero = []
+filling i (suc n) = line (admit (blockOf noLabels)) (policyAt i) ∷ filling (suc i) n
+
+unfoldable pub listed : List Line
+listed =
+    line counts (counted 0 0 0)
+    ∷ line (nextFinding start) noFinding
+    ∷ line (removeContainer 0) (refusal 11)
+    ∷ line (containerOf (label 1 11 ∷ label 3 1 ∷ [])) (containerAt 0)
+    ∷ lineAt 5762 refl (containerOf (label 1 11 ∷ label 3 2 ∷ []))
+    ∷ line (containerOf (label 1 11 ∷ label 3 2 ∷ [])) (containerAt 1)
+    ∷ line (containerOf (label 1 12 ∷ label 3 1 ∷ [])) (containerAt 2)
+    ∷ line (containerOf (label 1 99 ∷ label 2 9 ∷ [])) (containerAt 3)
+    ∷ line (policyOf ingress (label 3 2 ∷ []) (label 3 1 ∷ [])) (policyAt 0)
+    ∷ line (policyOf ingress (label 1 11 ∷ label 3 2 ∷ []) (label 1 11 ∷ label 3 1 ∷ [])) (policyAt 1)
+    ∷ line (policyOf egress (label 3 2 ∷ []) (label 1 13 ∷ [])) (policyAt 2)
+    -- the printed report: "CONTAINERS 4 POLICIES 3 PAIRS 11", its first finding, its shadow, its end
+    ∷ line counts (counted 4 3 11)
+    ∷ line (nextFinding start) (meets 3 0 2)
+    ∷ line (nextFinding (cursor 4 3 1)) (meets 5 1 0)
+    ∷ line (nextFinding (cursor 7 2 1)) noFinding
+    ∷ line (askReaches 1 0) (says false)
+    ∷ line (askReaches 2 1) (says true)
+    -- 10 of either comes before 11
+    ∷ line (askReaches 4 256) (refusal 10)
+    ∷ line (askReaches 3 4) (refusal 11)
+    ∷ line (askUser 2 12) (says true)
+    ∷ line (askUser 2 65548) (says false)
+    ∷ line (askUser 255 12) (refusal 11)
+    ∷ line (askUser 256 12) (refusal 10)
+    -- blocks that are refused
+    ∷ line (admit shortBlock) (refusal 3)
+    ∷ line (admit uncheckedBlock) (refusal 4)
+    ∷ line (admit kindBlock) (refusal 5)
+    ∷ line (admit nineBlock) (refusal 6)
+    ∷ line (admit valueBlock) (refusal 7)
+    ∷ line (admit orderBlock) (refusal 8)
+    ∷ line (admit unusedBlock) (refusal 9)
+    ∷ line (openWith keyBlock) (refusal 7)
+    ∷ lineAt 5764 refl (openWith (settingsBlock otherSettings))
+    ∷ line audit (says true)
+    -- removals: pairs that a policy forbade return
+    ∷ line (removePolicy 2) done
+    ∷ line (removePolicy 2) (refusal 11)
+    ∷ line (removePolicy 128) (refusal 10)
+    ∷ line (askReaches 1 0) (says true)
+    ∷ line (removeContainer 0) done
+    ∷ line (askReaches 0 1) (refusal 11)
+    -- a freed slot is used again
+    ∷ line (containerOf []) (containerAt 0)
+    ∷ line counts (counted 4 2 13)
+    ∷ line (nextFinding (cursor 5 65535 65535)) (meets 7 1 1)
+    ∷ line rebuild done
+    ∷ line counts (counted 4 2 13)
+    -- open again; then all policies that the table takes, and one more
+    ∷ line (openWith (settingsBlock otherSettings)) done
+    ∷ line counts (counted 0 0 0)
+    ∷ (filling 0 128
+    ++ (line (admit (blockOf noLabels)) (refusal 12)
+    ∷ line (containerOf []) (containerAt 0)
+    ∷ line (removePolicy 5) done
+    ∷ line (admit (blockOf noLabels)) (policyAt 5)
+    ∷ lineAt 0 refl audit
+    ∷ line counts (counted 1 128 1)
+    ∷ line audit (says true)
+    ∷ []))
+
+abbrev pub callsOf : List Line → List Lending
+callsOf l = map (λ x. x .call) l
+
+abbrev pub seenOf : List Line → List Seen
+seenOf l = map (λ x. x .seen) l

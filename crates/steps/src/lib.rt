@@ -1,0 +1,1 @@
+// What each call does to a memory: definitions and theorems alone.

@@ -1,0 +1,168 @@
+-- Tables by what stands at each place, words by their bits, and the one memory that holds given contents. Assumes nothing.
+use mathlib.Core.Path.{_≡_, refl, sym, ap, ap₂, _∙_}
+use mathlib.Core.Bool.{Bool, true, false, cond}
+use mathlib.Core.List.{List, _∷_}
+use Prim.Native.Nat.{ℕ, zero, suc, _+_, _*_, _-_, _/_, _%_, _^_, _<_, _≤_}
+use native.Mathlib.Nat.{two-pow-succ, div-one, not-suc-le-zero, le-of-suc-le-suc}
+use native.Mathlib.Omega.{arith}
+use lib.ListN.{length, getD, List·getD-eq-default}
+use lib.Seq.{ext-getD}
+use borrow.Author.Tests.{lt-ltb, le-ltb}
+use Rattle.bitrow.specs.Bit.{digit, bit}
+use Rattle.bitrow.specs.Set.{one}
+use Rattle.bitrow.proofs.Words.{bit-shr, word-ext}
+use Rattle.store.specs.Layout.{memoryWords, rowsStart, rowStart, wordAt, rowBit}
+use Rattle.store.specs.Contents.{Contents, Holds, tab, packed, imageWord, imageOf}
+use Rattle.store.proofs.Cases.{by-ltb}
+
+-- ---- tables
+
+module _ {A : Type 0} where
+  pub length-tab : (n : ℕ) (f : ℕ → A) → length (tab n f) ≡ n
+  unfolding tab
+  length-tab zero f = refl
+  length-tab (suc n) f = ap suc (length-tab n (λ (i : ℕ). f (suc i)))
+
+  pub getD-tab : (n : ℕ) (f : ℕ → A) (i : ℕ) (d : A) → i < n → getD (tab n f) i d ≡ f i
+  unfolding tab
+  getD-tab zero f i d h = absurd (not-suc-le-zero h)
+  getD-tab (suc n) f zero d h = refl
+  getD-tab (suc n) f (suc i) d h = getD-tab n (λ (i : ℕ). f (suc i)) i d (le-of-suc-le-suc h)
+
+  -- past the table's end
+  pub tab-beyond : (n : ℕ) (f : ℕ → A) (i : ℕ) (d : A) → n ≤ i → getD (tab n f) i d ≡ d
+  tab-beyond n f i d h = List·getD-eq-default (tab n f) d (omega (arith, length-tab n f))
+
+  -- a list is the table of what stands at each of its places
+  pub is-tab : (n : ℕ) (f : ℕ → A) (l : List A) (d : A) → length l ≡ n → ((i : ℕ) → i < n → getD l i d ≡ f i) → l ≡ tab n f
+  is-tab n f l d e h =
+      ext-getD d l (tab n f) (e ∙ sym (length-tab n f)) (λ i b. let q : i < n = omega arith in h i q ∙ sym (getD-tab n f i d q))
+
+  pub tab-cong : (n : ℕ) (f g : ℕ → A) → ((i : ℕ) → i < n → f i ≡ g i) → tab n f ≡ tab n g
+  unfolding tab
+  tab-cong zero f g h = refl
+  tab-cong (suc n) f g h =
+      ap₂ (λ (x : A) (l : List A). x ∷ l) (h 0 (omega arith)) (tab-cong n (λ (i : ℕ). f (suc i)) (λ (i : ℕ). g (suc i)) (λ i b. h (suc i) (omega arith)))
+
+-- ---- words by their bits
+
+one-lt : (b : Bool) → one b < 2
+one-lt true = omega arith
+one-lt false = omega arith
+
+digit-one : (b : Bool) → digit (one b) ≡ b
+digit-one true = refl
+digit-one false = refl
+
+pub packed-lt : (n : ℕ) (f : ℕ → Bool) → packed n f < 2 ^ n
+unfolding packed
+packed-lt zero f = omega arith
+packed-lt (suc n) f = omega (arith, packed-lt n (λ (i : ℕ). f (suc i)), two-pow-succ n, one-lt (f 0))
+
+bit-first : (p : ℕ) (b : Bool) → bit (2 * p + one b) 0 ≡ b
+unfolding bit
+bit-first p b = let e : (2 * p + one b) / 1 % 2 ≡ one b = rw div-one (omega (arith, one-lt b)) in ap digit e ∙ digit-one b
+
+bit-next : (p : ℕ) (b : Bool) (i : ℕ) → bit (2 * p + one b) (suc i) ≡ bit p i
+bit-next p b i =
+    let w = 2 * p + one b in
+    let q : w / 2 ^ 1 ≡ p = omega (arith, one-lt b) in
+    ap (bit w) (omega arith) ∙ sym (bit-shr w 1 i) ∙ ap (λ (x : ℕ). bit x i) q
+
+pub bit-packed : (n : ℕ) (f : ℕ → Bool) (i : ℕ) → i < n → bit (packed n f) i ≡ f i
+unfolding packed
+bit-packed zero f i h = absurd (not-suc-le-zero h)
+bit-packed (suc n) f zero h = bit-first (packed n (λ (i : ℕ). f (suc i))) (f 0)
+bit-packed (suc n) f (suc i) h =
+    bit-next (packed n (λ (i : ℕ). f (suc i))) (f 0) i ∙ bit-packed n (λ (i : ℕ). f (suc i)) i (le-of-suc-le-suc h)
+
+-- a word is what its bits make
+pub is-packed : (n w : ℕ) (f : ℕ → Bool) → w < 2 ^ n → ((i : ℕ) → i < n → bit w i ≡ f i) → w ≡ packed n f
+is-packed n w f h e = word-ext n w (packed n f) h (packed-lt n f) (λ i b. e i b ∙ sym (bit-packed n f i b))
+
+pub packed-cong : (n : ℕ) (f g : ℕ → Bool) → ((i : ℕ) → i < n → f i ≡ g i) → packed n f ≡ packed n g
+packed-cong n f g h = is-packed n (packed n f) g (packed-lt n f) (λ i b. bit-packed n f i b ∙ h i b)
+
+-- ---- the memory that holds given contents
+
+-- the bits of word k, from the first word of the rows on
+abbrev pub wordBits : Contents → ℕ → ℕ → Bool
+wordBits c k i = c .bits ((k - rowsStart) / 4) ((k - rowsStart) % 4 * 64 + i)
+
+-- the place of a word's bit: its row, its place there
+row-place : (m : List ℕ) (k i : ℕ) → rowsStart ≤ k → i < 64 → rowBit m ((k - rowsStart) / 4) ((k - rowsStart) % 4 * 64 + i) ≡ bit (wordAt m k) i
+unfolding rowBit
+row-place m k i h b =
+    let r = (k - rowsStart) / 4 in
+    let y = (k - rowsStart) % 4 * 64 + i in
+    let u : rowStart r + y / 64 ≡ k = omega arith in
+    let v : y % 64 ≡ i = omega arith in
+    ap₂ (λ (x z : ℕ). bit (wordAt m x) z) u v
+
+-- a memory is the image of what it holds
+pub holds-image : {m : List ℕ} {c : Contents} → Holds m c → ((k : ℕ) → wordAt m k < 2 ^ 64) → m ≡ imageOf c
+unfolding imageOf imageWord
+holds-image {m} {c} h fit =
+    is-tab memoryWords (imageWord c) m 0 (h .whole) (λ k l.
+    by-ltb (λ t. wordAt m k ≡ cond t (c .words k) (packed 64 (wordBits c k))) k rowsStart
+    (λ g. h .words k g)
+    (λ g. is-packed 64 (wordAt m k) (wordBits c k) (fit k) (λ i b. sym (row-place m k i g b) ∙ h .bits ((k - rowsStart) / 4) ((k - rowsStart) % 4 * 64 + i) (omega arith) (omega arith))))
+
+module _ (c : Contents) where
+  pub image-length : length (imageOf c) ≡ memoryWords
+  unfolding imageOf
+  image-length = length-tab memoryWords (imageWord c)
+
+  pub image-word : (k : ℕ) → k < memoryWords → wordAt (imageOf c) k ≡ imageWord c k
+  unfolding imageOf
+  image-word k h = getD-tab memoryWords (imageWord c) k 0 h
+
+  pub image-entry : (k : ℕ) → k < rowsStart → wordAt (imageOf c) k ≡ c .words k
+  unfolding imageWord
+  image-entry k h = image-word k (omega arith) ∙ (rw (lt-ltb k rowsStart h))
+
+  pub image-packed : (k : ℕ) → rowsStart ≤ k → k < memoryWords → wordAt (imageOf c) k ≡ packed 64 (wordBits c k)
+  unfolding imageWord
+  image-packed k g h = image-word k h ∙ (rw (le-ltb k rowsStart g))
+
+  pub image-bit : (r y : ℕ) → r < 512 → y < 256 → rowBit (imageOf c) r y ≡ c .bits r y
+  unfolding rowBit
+  image-bit r y hr hy =
+      let k = rowStart r + y / 64 in
+      let a : (k - rowsStart) / 4 ≡ r = omega arith in
+      let b : (k - rowsStart) % 4 * 64 + y % 64 ≡ y = omega arith in
+      ap (λ (w : ℕ). bit w (y % 64)) (image-packed k (omega arith) (omega arith)) ∙ bit-packed 64 (wordBits c k) (y % 64) (omega arith) ∙ ap₂ (c .bits) a b
+
+  -- the image holds them
+  pub image-holds : Holds (imageOf c) c
+  image-holds = record { whole = image-length; words = image-entry; bits = image-bit }
+
+  -- a word of the rows, and a word past the memory's end
+  pub image-rows-fit : (k : ℕ) → rowsStart ≤ k → wordAt (imageOf c) k < 2 ^ 64
+  unfolding imageOf
+  image-rows-fit k g =
+      by-ltb (λ t. wordAt (imageOf c) k < 2 ^ 64) k memoryWords
+      (λ h. omega (arith, image-packed k g h, packed-lt 64 (wordBits c k)))
+      (λ h. omega (arith, tab-beyond memoryWords (imageWord c) k 0 h))
+
+  pub image-fits : ((k : ℕ) → k < rowsStart → c .words k < 2 ^ 64) → (k : ℕ) → wordAt (imageOf c) k < 2 ^ 64
+  image-fits fit k =
+      by-ltb (λ t. wordAt (imageOf c) k < 2 ^ 64) k rowsStart
+      (λ h. omega (arith, image-entry k h, fit k h)) (λ h. image-rows-fit k h)
+
+-- contents that agree before the rows and within them have one image
+pub record SameContents (c d : Contents) : Type 0 where
+  pub words : (k : ℕ) → k < rowsStart → c .words k ≡ d .words k
+  pub bits : (r y : ℕ) → r < 512 → y < 256 → c .bits r y ≡ d .bits r y
+
+pub image-same : (c d : Contents) → SameContents c d → imageOf c ≡ imageOf d
+unfolding imageOf imageWord
+image-same c d s =
+    tab-cong memoryWords (imageWord c) (imageWord d) (λ k l.
+    by-ltb (λ t. cond t (c .words k) (packed 64 (wordBits c k)) ≡ cond t (d .words k) (packed 64 (wordBits d k))) k rowsStart
+    (λ h. s .words k h)
+    (λ h. packed-cong 64 (wordBits c k) (wordBits d k) (λ i b. s .bits ((k - rowsStart) / 4) ((k - rowsStart) % 4 * 64 + i) (omega arith) (omega arith))))
+
+-- what a memory holds, said otherwise
+pub holds-as : {m : List ℕ} {c : Contents} → Holds m c → (d : Contents) → SameContents c d → Holds m d
+holds-as h d s = record { whole = h .whole; words = λ k l. h .words k l ∙ s .words k l; bits = λ r y a b. h .bits r y a b ∙ s .bits r y a b }

@@ -1,0 +1,117 @@
+-- Laws of lists that were stored to: a run of stores, a part that was filled, the turns of a loop. Assumes nothing.
+use mathlib.Core.Path.{_≡_, refl, sym, ap, _∙_}
+use mathlib.Core.Bool.{Bool}
+use mathlib.Core.List.{List, [], _∷_, _++_}
+use Prim.Native.Nat.{ℕ, zero, suc, _+_, _-_, _*_, _<_, _≤_}
+use native.Mathlib.Nat.{add-suc, add-zero, suc-add, zero-add, not-suc-le-zero, le-refl, mul-le-mul-left}
+use native.Mathlib.Numerals.{add-one}
+use native.Mathlib.Omega.{arith}
+use lib.ListN.{length, getD, set, take, replicate, length-set, replicate-append-replicate}
+use lib.Seq.{sets, getD-set-same, getD-set-other, set-append-left, length-take-le, take-suc, take-all, take-suc-set}
+use borrow.Rule.Slice.PartMut.{putMid, midOf, postOf, put-same, mid-len}
+use Rattle.store.specs.Layout.{wordAt}
+use Rattle.store.specs.Memory.{bitWord, slotSet, bitSet, runs, columnSet}
+use Rattle.bitrow.specs.Bit.{bitAt}
+
+-- ---- a run of stores
+
+-- nothing changes but from i on, and there as many as were stored
+pub sets-out : {A : Type 0} (vs m : List A) (i k : ℕ) (d : A) → (i ≤ k → k < i + length vs → ⊥) → getD (sets m i vs) k d ≡ getD m k d
+sets-out [] m i k d h = refl
+sets-out (v ∷ vs) m i k d h =
+    sets-out vs (set m i v) (suc i) k d (λ p q. h (omega arith) (omega (arith, add-suc i (length vs), suc-add i (length vs))))
+    ∙ getD-set-other m i k v d (λ e. h (omega arith) (omega (arith, add-suc i (length vs))))
+
+pub sets-in : {A : Type 0} (vs m : List A) (i j : ℕ) (d : A) → i + length vs ≤ length m → j < length vs → getD (sets m i vs) (i + j) d ≡ getD vs j d
+sets-in [] m i j d h l = absurd (not-suc-le-zero l)
+sets-in (v ∷ vs) m i zero d h l =
+    rw add-zero (sets-out vs (set m i v) (suc i) i d (λ p q. omega arith) ∙ getD-set-same m i v d (omega (arith, add-suc i (length vs))))
+sets-in (v ∷ vs) m i (suc j) d h l =
+    rw (add-suc, ← suc-add) (sets-in vs (set m i v) (suc i) j d (rw length-set (omega (arith, add-suc i (length vs), suc-add i (length vs)))) (omega arith))
+
+-- one store more
+sets-snoc : {A : Type 0} (vs m : List A) (i : ℕ) (v : A) → sets m i (vs ++ v ∷ []) ≡ set (sets m i vs) (i + length vs) v
+sets-snoc [] m i v = rw add-zero
+sets-snoc (x ∷ vs) m i v = rw (add-suc, ← suc-add) (sets-snoc vs (set m i x) (suc i) v)
+
+-- `memory[start + k] = words[k]`, after the first k
+pub slot-more : (m : List ℕ) (start k : ℕ) (words : List ℕ) → k < length words
+    → set (slotSet m start k words) (start + k) (getD words k 0) ≡ slotSet m start (k + 1) words
+unfolding slotSet
+slot-more m start k words h =
+    ap (λ (n : ℕ). set (sets m start (take k words)) (start + n) (getD words k 0)) (sym (length-take-le k words (omega arith)))
+    ∙ sym (sets-snoc (take k words) m start (getD words k 0))
+    ∙ ap (sets m start) (sym (take-suc words k 0 h) ∙ ap (λ (n : ℕ). take n words) (sym (add-one k)))
+
+-- ---- a part that was filled
+
+set-past : {A : Type 0} (p q : List A) (i : ℕ) (v : A) → set (p ++ q) (length p + i) v ≡ p ++ set q i v
+set-past [] q i v = simp zero-add
+set-past (x ∷ p) q i v = rw suc-add (ap (λ r. x ∷ r) (set-past p q i v))
+
+part-set : {A : Type 0} (a k : ℕ) (xs ys : List A) (j : ℕ) (v : A) → a ≤ length xs → j < length ys
+    → putMid a k xs (set ys j v) ≡ set (putMid a k xs ys) (a + j) v
+part-set {A} a k xs ys j v h g =
+    ap (λ (l : List A). take a xs ++ l) (sym (set-append-left ys (postOf a k xs) j v g))
+    ∙ sym (set-past (take a xs) (ys ++ postOf a k xs) j v)
+    ∙ ap (λ n. set (putMid a k xs ys) (n + j) v) (length-take-le a xs h)
+
+part-sets : {A : Type 0} (a k : ℕ) (xs : List A) (vs ys : List A) (j : ℕ) → a ≤ length xs → j + length vs ≤ length ys
+    → putMid a k xs (sets ys j vs) ≡ sets (putMid a k xs ys) (a + j) vs
+part-sets a k xs [] ys j h g = refl
+part-sets {A} a k xs (v ∷ vs) ys j h g =
+    part-sets a k xs vs (set ys j v) (suc j) h (simp length-set (omega (arith, add-suc j (length vs))))
+    ∙ ap (λ (l : List A). sets l (a + suc j) vs) (part-set a k xs ys j v h (omega (arith, add-suc j (length vs))))
+    ∙ ap (λ n. sets (set (putMid a k xs ys) (a + j) v) n vs) (add-suc a j)
+
+-- `f(&mut xs[a..])`, where f leaves `sets _ 0 vs` of the part, leaves `sets xs a vs`
+pub part-filled : {A : Type 0} (a : ℕ) (xs vs e : List A) → a + length vs ≤ length xs
+    → e ≡ sets (midOf a (length xs - a) xs) 0 vs → putMid a (length xs - a) xs e ≡ sets xs a vs
+part-filled {A} a xs vs e h q =
+    ap (λ (l : List A). putMid a (length xs - a) xs l) q
+    ∙ part-sets a (length xs - a) xs vs (midOf a (length xs - a) xs) 0 (omega arith) (omega (arith, mid-len a (length xs) xs (le-refl (length xs))))
+    ∙ ap (λ (l : List A). sets l (a + 0) vs) (put-same a (length xs - a) xs)
+    ∙ ap (λ n. sets xs n vs) (add-zero a)
+
+-- ---- every element made one value
+
+-- `l[i] = v`, where the i before it are v
+pub filled-more : {A : Type 0} (l : List A) (i : ℕ) (v : A) → i < length l → take i l ≡ replicate i v → take (i + 1) (set l i v) ≡ replicate (i + 1) v
+filled-more {A} l i v h e =
+    ap (λ (n : ℕ). take n (set l i v)) (add-one i) ∙ take-suc-set l i v h ∙ ap (λ (s : List A). s ++ (v ∷ [])) e ∙ replicate-append-replicate i 1 v
+
+pub filled : {A : Type 0} (l : List A) (i n : ℕ) (v : A) → length l ≡ n → i ≡ n → take i l ≡ replicate i v → l ≡ replicate n v
+filled l i n v e q h = sym (take-all i l (omega arith)) ∙ h ∙ ap (λ (k : ℕ). replicate k v) q
+
+-- ---- the turns of a loop
+
+-- a word that no turn changes
+pub runs-out : (turn : ℕ → List ℕ → List ℕ) (k n : ℕ) → ((i : ℕ) → i < n → (l : List ℕ) → wordAt (turn i l) k ≡ wordAt l k)
+    → (m : List ℕ) → wordAt (runs turn m n) k ≡ wordAt m k
+unfolding runs
+runs-out turn k zero each m = refl
+runs-out turn k (suc n) each m = each n (omega arith) (runs turn m n) ∙ runs-out turn k n (λ i h. each i (omega arith)) m
+
+-- ---- a column
+
+-- row first + step * i, where the last one is below n
+pub run-below : (first step count n i : ℕ) → first + step * (count - 1) < n → i < count → first + step * i < n
+run-below first step count n i h l = let p : i ≤ count - 1 = omega arith in omega (arith, mul-le-mul-left step p)
+
+pub length-bit : (m : List ℕ) (r b : ℕ) (v : Bool) → length (bitSet m r b v) ≡ length m
+unfolding bitSet
+length-bit m r b v = length-set m (bitWord r b) _
+
+-- no other word changes
+pub bit-out : (m : List ℕ) (r b : ℕ) (v : Bool) (k : ℕ) → (k ≡ bitWord r b → ⊥) → wordAt (bitSet m r b v) k ≡ wordAt m k
+unfolding bitSet
+bit-out m r b v k h = getD-set-other m (bitWord r b) k _ 0 h
+
+pub column-none : (m : List ℕ) (first step b : ℕ) (values : List ℕ) → m ≡ columnSet m first step 0 b values
+unfolding columnSet runs
+column-none m first step b values = refl
+
+pub column-more : (m : List ℕ) (first step i b : ℕ) (values : List ℕ)
+    → bitSet (columnSet m first step i b values) (first + step * i) b (bitAt values i) ≡ columnSet m first step (i + 1) b values
+unfolding columnSet runs
+column-more m first step i b values = rw add-one

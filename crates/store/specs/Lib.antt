@@ -1,0 +1,4 @@
+-- What the contracts of `store` cite.
+pub mod Layout
+pub mod Contents
+pub mod Memory
