@@ -18,7 +18,7 @@ use Rattle.block.specs.Refusal.{Refusal, Check, refuse, firstRefusal, ac
 use Rattle.block.specs.Reader.{within, labelsAt, rangeFaults, orderFaults, unusedFault, containerLayout, policyLayout, isContainer, layoutOf, policyIn, entryIn, settingsFault, settingsIn, settingsChecks, entryChecks, readSettings, readEntry}
 use Rattle.block.specs.Written.{validEntry, validSettings}
 use Rattle.block.proofs.Faults.{clear, clear-unless, clear-orElse}
-use Rattle.block.proofs.Labels.{valid-clear}
+use Rattle.block.proofs.LabelLists.{valid-clear}
 
 -- ---- checks in general
 

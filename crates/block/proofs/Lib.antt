@@ -1,7 +1,11 @@
--- The laws of blocks that are about no function of the code.
+-- The theorems on blocks, and the laws that the proofs of several functions cite.
 pub mod Faults
-pub mod Checksum
-pub mod Labels
+pub mod Weights
+pub mod LabelLists
 pub mod Accepted
 pub mod Sealed
 pub mod Written
+pub mod Passing
+pub mod Layouts
+pub mod Answers
+pub mod Words

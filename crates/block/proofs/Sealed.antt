@@ -12,7 +12,7 @@ use Rattle.block.specs.Bytes.{byteAt, numberAt, weighted, checksum}
 use Rattle.block.specs.Reader.{zeroFault}
 use Rattle.block.specs.Written.{numberBytes, sealed}
 use Rattle.block.proofs.Faults.{between-all}
-use Rattle.block.proofs.Checksum.{same-weight}
+use Rattle.block.proofs.Weights.{same-weight}
 
 -- a number past the first part of a list
 number-after : (a b : List ℕ) (p : ℕ) → numberAt (a ++ b) (length a + p) ≡ numberAt b p

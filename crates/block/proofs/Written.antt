@@ -14,7 +14,7 @@ use Rattle.block.specs.Reader.{within, zeroFault, unusedFault, isContain
 use Rattle.block.specs.Refusal.{accepted}
 use Rattle.block.specs.Written.{numberBytes, sealed, labelBytes, directionNumber, blockOf, settingsBlock, validLabels, validEntry, validSettings}
 use Rattle.block.proofs.Faults.{clear-none}
-use Rattle.block.proofs.Labels.{labels-read, length-bytes}
+use Rattle.block.proofs.LabelLists.{labels-read, length-bytes}
 use Rattle.block.proofs.Accepted.{SettingsRead, settings-accepted, EntryRead, entry-accepted, settings-clear, entry-clear, settings-valid, accepted-valid}
 use Rattle.block.proofs.Sealed.{number-back, sealed-begins, sealed-length, sealed-checked, sealed-unused}
 

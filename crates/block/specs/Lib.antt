@@ -5,3 +5,5 @@ pub mod Fault
 pub mod Refusal
 pub mod Reader
 pub mod Written
+pub mod Reading
+pub mod Steps

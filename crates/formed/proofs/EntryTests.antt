@@ -2,14 +2,14 @@
 use mathlib.Core.Path.{_≡_, refl, sym, ap, ap₂, _∙_}
 use mathlib.Core.Bool.{Bool, true, false, _&&_, cond}
 use mathlib.Core.List.{List, [], _∷_, map}
-use mathlib.Core.Option.{Option, none, some}
-use Prim.Native.Nat.{ℕ, zero, suc, _+_, _*_, _-_, _/_, _%_, _<_, _≤_}
+use mathlib.Core.Option.{none, some}
+use Prim.Native.Nat.{ℕ, zero, suc, _+_, _-_, _/_, _%_, _<_, _≤_}
 use native.Mathlib.Nat.{not-suc-le-zero, le-of-suc-le-suc, add-zero}
 use native.Mathlib.Omega.{arith}
 use lib.Dec.{eqb, ltb, leb}
 use lib.ListN.{length, getD, length-map, List·getD-eq-default}
-use borrow.Author.Tests.{ltb-true, leb-true, lt-ltb, le-ltb, le-leb, eqb-true, eqb-false, eq-eqb, ne-eqb}
-use Rattle.block.specs.Entry.{Label, Container, Policy, Settings, container, policy, ingress, egress}
+use borrow.Author.Tests.{ltb-true, leb-true, lt-ltb, le-ltb, le-leb, eqb-true, eqb-false, eq-eqb}
+use Rattle.block.specs.Entry.{Label, Settings, ingress, egress}
 use Rattle.block.specs.Reader.{within, directionOf}
 use Rattle.block.specs.Written.{directionNumber, inRange, allInRange, risingAfter, rising, validLabels, validEntry}
 use Rattle.store.specs.Layout.{containerStart, policyStart, wordAt}
@@ -17,9 +17,9 @@ use Rattle.store.proofs.Cases.{by-ltb}
 use Rattle.formed.specs.Words.{labelWord, partWord, containerWord, policyWord, labelIn, labelsIn, partIn, containerIn, policyAt, policyIn}
 use Rattle.formed.specs.Tests.{_and_, choose, zeros, labelOk, labelsOk, labelsBetween, partOk, containerOk, policyOk}
 use Rattle.formed.proofs.Tests.{both}
-use Rattle.formed.proofs.Parts.{label-word, label-bounds, length-labels, labels-few, labels-in-range}
-use Rattle.formed.proofs.Slots.{validContainer, validPolicy, Words, first-word, valid-container, valid-policy, direction-small}
-use Rattle.formed.proofs.Runs.{and-left, and-right, and-passes, choose-yes, choose-no, between-at, between-all}
+use Rattle.formed.proofs.Parts.{label-word, label-bounds, length-labels, labels-few}
+use Rattle.formed.proofs.Slots.{validContainer, validPolicy, Words, first-word, direction-small}
+use Rattle.formed.proofs.Runs.{and-left, and-right, and-passes, between-at, between-all}
 
 -- ---- labels
 

@@ -1,12 +1,10 @@
 -- The entries of a well-formed memory: bounds for the code that reads them, and what it reads. Assumes nothing.
-use mathlib.Core.Path.{_≡_, sym, ap, ap₂, _∙_, subst}
+use mathlib.Core.Path.{_≡_, sym, ap, _∙_, subst}
 use mathlib.Core.Bool.{true, not, _&&_}
 use mathlib.Core.List.{List}
-use mathlib.Core.Option.{Option}
 use Prim.Native.Nat.{ℕ, _+_, _*_}
-use native.Mathlib.Omega.{arith}
 use lib.Dec.{eqb, leb}
-use Rattle.block.specs.Entry.{Container, container}
+use Rattle.block.specs.Entry.{container}
 use Rattle.block.specs.Written.{validLabels, validEntry}
 use Rattle.model.specs.Table.{on, at, stands}
 use Rattle.model.specs.Rules.{carries}

@@ -2,26 +2,24 @@
 use mathlib.Core.Path.{_≡_, refl, sym, ap, ap₂, _∙_}
 use mathlib.Core.Bool.{Bool, true, false, not, _&&_, _||_, cond, or-false, and-false}
 use mathlib.Core.List.{List, [], _∷_}
-use mathlib.Core.Option.{Option, none, some}
-use Prim.Native.Nat.{ℕ, zero, suc, _+_, _*_, _-_, _/_, _%_, _<_, _≤_}
+use Prim.Native.Nat.{ℕ, _+_, _*_, _-_, _<_, _≤_}
 use native.Mathlib.Omega.{arith}
 use lib.Dec.{eqb, leb, ltb}
 use lib.ListN.{length}
-use borrow.Author.Tests.{eqb-true, eqb-false, eq-eqb, ne-eqb, le-leb, leb-true, ltb-true, not-true}
-use Rattle.block.specs.Entry.{Label, Container}
+use borrow.Author.Tests.{eqb-true, eq-eqb, ne-eqb, le-leb, leb-true, ltb-true}
+use Rattle.block.specs.Entry.{Label}
 use Rattle.block.specs.Written.{inRange, allInRange, risingAfter, rising, validLabels}
 use Rattle.bitrow.proofs.Tests.{same-test}
-use Rattle.model.specs.Table.{any, on, at, stands}
+use Rattle.model.specs.Table.{any, on, stands}
 use Rattle.model.specs.Rules.{sameLabel, carries}
-use Rattle.model.specs.Model.{Model}
 use Rattle.model.specs.Findings.{sameUser}
 use Rattle.store.specs.Layout.{wordAt, containerStart}
 use Rattle.store.proofs.Cases.{by-eqb}
-use Rattle.formed.specs.Words.{labelWord, labelIn, partIn, settingsIn}
+use Rattle.formed.specs.Words.{labelWord, partIn, settingsIn}
 use Rattle.formed.specs.Registry.{modelIn}
 use Rattle.formed.specs.Entries.{wordUnder}
-use Rattle.formed.proofs.Tests.{both, clash}
-use Rattle.formed.proofs.Parts.{LabelBounds, label-bounds, labels-in-range}
+use Rattle.formed.proofs.Tests.{both}
+use Rattle.formed.proofs.Parts.{LabelBounds, label-bounds}
 use Rattle.formed.proofs.Trials.{container-at}
 
 -- ---- rising keys

@@ -2,17 +2,15 @@
 use mathlib.Core.Path.{_≡_, refl, sym, ap, _∙_}
 use mathlib.Core.Bool.{Bool, true, false, not, _&&_, cond}
 use mathlib.Core.List.{List}
-use Prim.Native.Nat.{ℕ, zero, suc, _+_, _/_, _%_, _<_}
-use native.Mathlib.Nat.{add-zero}
-use native.Mathlib.Omega.{arith}
+use Prim.Native.Nat.{ℕ, _<_}
 use lib.Dec.{eqb}
-use lib.ListN.{getD}
 use borrow.Author.Tests.{eq-eqb, ne-eqb}
-use Rattle.bitrow.specs.Bit.{bit, bitAt}
+use Rattle.bitrow.specs.Bit.{bitAt}
 use Rattle.bitrow.specs.Set.{nothing, part, hasSome}
 use Rattle.bitrow.proofs.Sets.{less-nothing, nothing-at}
 use Rattle.bitrow.proofs.Tests.{part-all, part-in}
-use Rattle.store.specs.Layout.{wordAt, rowStart, rowAt, rowBit}
+use Rattle.store.specs.Layout.{rowAt, rowBit}
+use Rattle.store.proofs.Carried.{row-bit}
 use Rattle.formed.specs.Tests.{ownedBy, rowOk}
 
 module _ (m : List ℕ) (s : ℕ → Bool) (w r : ℕ) where
@@ -27,17 +25,6 @@ module _ (m : List ℕ) (s : ℕ → Bool) (w r : ℕ) where
   row-owned z = ap (λ t. part (bitAt (rowAt m r)) (cond t nothing s)) (ne-eqb w 0 z)
 
 -- ---- the bits of a row
-
-row-word : (m : List ℕ) (r j : ℕ) → j < 4 → getD (rowAt m r) j 0 ≡ wordAt m (rowStart r + j)
-row-word m r zero h = ap (λ k. wordAt m k) (sym (add-zero (rowStart r)))
-row-word m r (suc zero) h = refl
-row-word m r (suc (suc zero)) h = refl
-row-word m r (suc (suc (suc zero))) h = refl
-row-word m r (suc (suc (suc (suc j)))) h = absurd (omega arith)
-
-pub row-bit : (m : List ℕ) (r y : ℕ) → y < 256 → bitAt (rowAt m r) y ≡ rowBit m r y
-unfolding bitAt rowBit
-row-bit m r y h = ap (λ w. bit w (y % 64)) (row-word m r (y / 64) (omega arith))
 
 owned-at : (w : ℕ) (s : ℕ → Bool) (y : ℕ) → ownedBy w s y ≡ (not (eqb w 0) && s y)
 unfolding ownedBy

@@ -1,29 +1,25 @@
 -- Standing slots as bits: a word that a loop gathers, and four such words as the row of a table. Assumes nothing.
 use mathlib.Core.Path.{_≡_, refl, sym, ap, _∙_, fun-ext}
-use mathlib.Core.Bool.{Bool, true, false, not, _&&_, _||_, cond, and-true, and-false, or-comm}
+use mathlib.Core.Bool.{Bool, false, not, _&&_, _||_, and-true, and-false, and-comm, or-comm}
 use mathlib.Core.List.{List, [], _∷_}
-use mathlib.Core.Option.{Option, none, some}
 use Prim.Native.Nat.{ℕ, zero, suc, _+_, _*_, _%_, _^_, _<_, _≤_}
 use native.Mathlib.Nat.{mul-le-mul-left}
 use native.Mathlib.Omega.{arith}
 use lib.Bits.{bitOr}
 use lib.Dec.{eqb, ltb}
 use lib.ListN.{getD}
-use borrow.Author.Tests.{lt-ltb, le-ltb, eq-eqb, ne-eqb}
+use borrow.Author.Tests.{eq-eqb, ne-eqb}
 use Rattle.bitrow.specs.Bit.{bit, bitAt}
 use Rattle.bitrow.specs.Set.{nothing, insert, meet, under, Bounded}
 use Rattle.bitrow.proofs.Sets.{at, meet-at, meet-take, meet-skip, meet-nothing, under-zero, under-in, under-out, bounded-under, bounded-raise, bounded-meet-right}
 use Rattle.bitrow.proofs.Words.{bit-or, bit-pow, bit-zero, one-shl}
 use Rattle.bitrow.proofs.Rows.{words-are}
-use Rattle.model.specs.Table.{Table, on, stands}
+use Rattle.model.specs.Table.{stands}
 use Rattle.model.specs.Model.{containerSlots, policySlots}
-use Rattle.store.specs.Layout.{containersStart, containerWords, policiesStart, policyWords, wordAt}
-use Rattle.store.specs.Contents.{tab}
-use Rattle.store.proofs.Cases.{by-ltb}
-use Rattle.store.proofs.Image.{getD-tab, tab-beyond}
-use Rattle.formed.specs.Words.{containerIn, policyIn}
+use Rattle.store.specs.Layout.{containersStart, containerWords, policiesStart, policyWords, containerStart, policyStart, wordAt}
 use Rattle.formed.specs.Registry.{modelIn}
 use Rattle.formed.specs.Tests.{heads}
+use Rattle.formed.proofs.Reading.{container-stands, policy-stands}
 
 module _ (s : ℕ → Bool) (n j : ℕ) where
   pub meet-in : j < n → meet s (under n) j ≡ s j
@@ -92,24 +88,14 @@ words-row s a b c d q f g h l = words-are (a ∷ b ∷ c ∷ d ∷ []) s refl q 
 
 -- ---- the standing slots of a table, by their first words
 
-read-stands : {A : Type 0} (t : Bool) (x : A) → on (λ y. true) (cond t none (some x)) ≡ not t
-read-stands true x = refl
-read-stands false x = refl
-
-table-stands : {A : Type 0} (n : ℕ) (f : ℕ → Option A) (s : ℕ → Bool) → ((i : ℕ) → on (λ y. true) (f i) ≡ s i) → stands (tab n f) ≡ meet s (under n)
-table-stands n f s e = fun-ext (λ i.
-    by-ltb (λ t. stands (tab n f) i ≡ meet s (under n) i) i n
-    (λ l. ap (on (λ y. true)) (getD-tab n f i none l) ∙ e i ∙ sym (meet-in s n i l))
-    (λ l. ap (on (λ y. true)) (tab-beyond n f i none l) ∙ sym (meet-out s n i l)))
-
 module _ (m : List ℕ) where
   pub containers-stand : stands (modelIn m .containers) ≡ meet (heads m containersStart containerWords) (under containerSlots)
-  unfolding modelIn containerIn heads
-  containers-stand = table-stands containerSlots (containerIn m) (heads m containersStart containerWords) (λ c. read-stands (eqb (wordAt m (containersStart + containerWords * c)) 0) _)
+  unfolding meet under heads
+  containers-stand = fun-ext (λ c. container-stands m c ∙ and-comm (ltb c containerSlots) (not (eqb (wordAt m (containerStart c)) 0)))
 
   pub policies-stand : stands (modelIn m .policies) ≡ meet (heads m policiesStart policyWords) (under policySlots)
-  unfolding modelIn policyIn heads
-  policies-stand = table-stands policySlots (policyIn m) (heads m policiesStart policyWords) (λ q. read-stands (eqb (wordAt m (policiesStart + policyWords * q)) 0) _)
+  unfolding meet under heads
+  policies-stand = fun-ext (λ q. policy-stands m q ∙ and-comm (ltb q policySlots) (not (eqb (wordAt m (policyStart q)) 0)))
 
   pub containers-row : (a b c d : ℕ)
       → bit a ≡ meet (heads m 3 9) (under 64) → bit b ≡ meet (heads m 579 9) (under 64)

@@ -1,88 +1,68 @@
 -- The code's tests together are `wellFormed`, on every memory of our size whose words fit 64 bits. Assumes nothing.
-use mathlib.Core.Path.{_≡_, refl, sym, ap, _∙_, subst}
+use mathlib.Core.Path.{_≡_, refl, sym, ap, _∙_}
 use mathlib.Core.Bool.{Bool, true, false, not, _&&_, cond}
 use mathlib.Core.List.{List}
-use mathlib.Core.Option.{none}
-use Prim.Native.Nat.{ℕ, zero, suc, _+_, _*_, _-_, _/_, _%_, _^_, _<_, _≤_, zero-le}
+use Prim.Native.Nat.{ℕ, zero, suc, _+_, _-_, _/_, _%_, _^_, _<_, zero-le}
 use native.Mathlib.Omega.{arith}
 use lib.Dec.{eqb, ltb}
 use lib.ListN.{length}
 use mir.Syntax.{w64}
 use mir.Val.{Fits}
 use borrow.Author.Tests.{lt-ltb, ne-eqb}
-use Rattle.bitrow.proofs.Sets.{at as on-both}
 use Rattle.bitrow.proofs.Tests.{same-test}
+use Rattle.block.specs.Entry.{Settings}
 use Rattle.block.specs.Written.{validSettings}
 use Rattle.model.specs.Table.{at, stands}
 use Rattle.model.specs.Model.{containerSlots, policySlots}
-use Rattle.store.specs.Layout.{memoryWords, rowsStart, containersStart, containerWords, policiesStart, policyWords, containerStart, policyStart, selectedRow, allowedRow, Whole, wordAt, rowBit}
+use Rattle.store.specs.Layout.{memoryWords, rowsStart, containerStart, policyStart, selectedRow, allowedRow, Whole, wordAt, rowBit}
 use Rattle.store.specs.Contents.{Holds}
 use Rattle.store.proofs.Cases.{by-ltb, by-eqb}
-use Rattle.store.proofs.Image.{getD-tab, tab-beyond}
-use Rattle.formed.specs.Words.{settingsWord, containerWord, policyWord, settingsIn, containerIn, policyIn}
-use Rattle.formed.specs.Registry.{modelIn, bitWithin, bitsIn, registryIn, entryWord, storedBit, contentsOf, image, acceptable, Acceptable, sameWords, wellFormed}
-use Rattle.formed.specs.Tests.{heads, containerOk, policyOk, containersOk, policiesOk, rowOk, matrixRowOk, setRowsOk, matrixOk, setsOk, tests}
-use Rattle.formed.proofs.Slots.{validContainer, validPolicy, Words}
-use Rattle.formed.proofs.Back.{container-words, policy-words, written}
+use Rattle.formed.specs.Words.{settingsWord, containerWord, policyWord, settingsIn}
+use Rattle.formed.specs.Registry.{modelIn, bitsIn, registryIn, entryWord, storedBit, contentsOf, image, acceptable, Acceptable, sameWords, wellFormed}
+use Rattle.formed.specs.Tests.{containerOk, policyOk, containersOk, policiesOk, rowOk, matrixRowOk, setRowsOk, matrixOk, setsOk, tests}
+use Rattle.formed.proofs.Slots.{validContainer, validPolicy}
+use Rattle.formed.proofs.Back.{written}
 use Rattle.formed.proofs.Acceptable.{containers-size, policies-size, registry-bounded}
-use Rattle.formed.proofs.Formed.{FormedMemory, formed-memory, memory-formed, formed-holds}
+use Rattle.formed.proofs.Formed.{formed-memory, memory-formed}
+use Rattle.formed.proofs.Reading.{container-slot, container-beyond, policy-slot, policy-beyond, container-stands, policy-stands, matrix-in, selected-in, allowed-in, formed-container, formed-policy}
 use Rattle.formed.proofs.Runs.{and-left, and-right, and-passes, between-at, between-all}
-use Rattle.formed.proofs.Standing.{meet-in, containers-stand, policies-stand}
 use Rattle.formed.proofs.Rows.{row-holds, row-passes}
 use Rattle.formed.proofs.EntryTests.{container-holds, container-passes, policy-holds, policy-passes}
-
--- ---- what the registry of a memory has at a slot
-
-module _ (m : List ℕ) where
-  container-at : (c : ℕ) → c < containerSlots → at (registryIn m .model .containers) c ≡ containerIn m c
-  unfolding registryIn modelIn
-  container-at c h = getD-tab containerSlots (containerIn m) c none h
-
-  policy-at : (q : ℕ) → q < policySlots → at (registryIn m .model .policies) q ≡ policyIn m q
-  unfolding registryIn modelIn
-  policy-at q h = getD-tab policySlots (policyIn m) q none h
-
-  container-first : (c : ℕ) → c < containerSlots → stands (registryIn m .model .containers) c ≡ not (eqb (wordAt m (containerStart c)) 0)
-  unfolding registryIn heads
-  container-first c h = on-both (containers-stand m) c ∙ meet-in (heads m containersStart containerWords) containerSlots c h
-
-  policy-first : (q : ℕ) → q < policySlots → stands (registryIn m .model .policies) q ≡ not (eqb (wordAt m (policyStart q)) 0)
-  unfolding registryIn heads
-  policy-first q h = on-both (policies-stand m) q ∙ meet-in (heads m policiesStart policyWords) policySlots q h
-
-  bit-within : (n x r y : ℕ) → x < n → y < containerSlots → bitWithin m n x r y ≡ rowBit m r y
-  unfolding bitWithin
-  bit-within n x r y hx hy = rw (lt-ltb x n hx, lt-ltb y containerSlots hy)
 
 -- ---- the bits of a memory are always those of what it says
 
 pub row-stored : (m : List ℕ) (x y : ℕ) → x < 512 → y < 256 → rowBit m x y ≡ storedBit (bitsIn m) x y
-unfolding storedBit bitsIn
+unfolding storedBit
 row-stored m x y hx hy =
     let q = (x - 256) / 2 in
-    let s = bitWithin m 128 q (256 + 2 * q) y in
-    let a = bitWithin m 128 q (257 + 2 * q) y in
-    by-ltb (λ t. rowBit m x y ≡ cond t (bitWithin m 256 x x y) (cond (eqb (x % 2) 0) s a)) x 256
-    (λ l. sym (bit-within m 256 x x y l hy))
+    let s = bitsIn m .selected q y in
+    let a = bitsIn m .allowed q y in
+    by-ltb (λ t. rowBit m x y ≡ cond t (bitsIn m .matrix x y) (cond (eqb (x % 2) 0) s a)) x 256
+    (λ l. sym (matrix-in m x y l hy))
     (λ l. by-eqb (λ t. rowBit m x y ≡ cond t s a) (x % 2) 0
-    (λ e. let i : x ≡ 256 + 2 * q = omega arith in
-    ap (λ r. rowBit m r y) i ∙ sym (bit-within m 128 q (256 + 2 * q) y (omega arith) hy))
-    (λ e. let i : x ≡ 257 + 2 * q = omega arith in
-    ap (λ r. rowBit m r y) i ∙ sym (bit-within m 128 q (257 + 2 * q) y (omega arith) hy)))
+    (λ e. let i : x ≡ selectedRow q = omega arith in ap (λ r. rowBit m r y) i ∙ sym (selected-in m q y (omega arith) hy))
+    (λ e. let i : x ≡ allowedRow q = omega arith in ap (λ r. rowBit m r y) i ∙ sym (allowed-in m q y (omega arith) hy)))
 
 -- ---- rows: one law for the matrix and both sets
 
--- n slots with their rows, first words and standing slots
-module _ (m : List ℕ) (n : ℕ) (row first : ℕ → ℕ) (o s : ℕ → Bool) (e : (x : ℕ) → x < n → o x ≡ not (eqb (wordAt m (first x)) 0)) where
-  bits-stand : ((x : ℕ) → x < n → rowOk m s (wordAt m (first x)) (row x) ≡ true)
-      → (x y : ℕ) → x < n → y < 256 → bitWithin m n x (row x) y ≡ true → (o x && s y) ≡ true
-  bits-stand ok x y hx hy b =
-      ap (λ t. t && s y) (e x hx) ∙ row-holds m s (wordAt m (first x)) (row x) (ok x hx) y hy (sym (bit-within m n x (row x) y hx hy) ∙ b)
+-- what the first word of a slot says
+stands-first : (o : ℕ → Bool) (m : List ℕ) (n : ℕ) (first : ℕ → ℕ) → ((x : ℕ) → o x ≡ (ltb x n && not (eqb (wordAt m (first x)) 0)))
+    → (x : ℕ) → x < n → o x ≡ not (eqb (wordAt m (first x)) 0)
+stands-first o m n first e x h = e x ∙ ap (λ t. t && not (eqb (wordAt m (first x)) 0)) (lt-ltb x n h)
 
-  stand-bits : ((x y : ℕ) → bitWithin m n x (row x) y ≡ true → (o x && s y) ≡ true)
-      → (x : ℕ) → x < n → rowOk m s (wordAt m (first x)) (row x) ≡ true
-  stand-bits f x hx =
-      row-passes m s (wordAt m (first x)) (row x) (λ y hy b. ap (λ t. t && s y) (sym (e x hx)) ∙ f x y (bit-within m n x (row x) y hx hy ∙ b))
+-- n slots with their first words, which of them stand, their rows, and the bits of those; the containers that stand
+module _ (m : List ℕ) (n : ℕ) (first : ℕ → ℕ) (o : ℕ → Bool) (e : (x : ℕ) → o x ≡ (ltb x n && not (eqb (wordAt m (first x)) 0)))
+    (row : ℕ → ℕ) (f : ℕ → ℕ → Bool) (g : (x y : ℕ) → x < n → y < 256 → f x y ≡ rowBit m (row x) y) (s : ℕ → Bool) where
+  bits-stand : ((x : ℕ) → x < n → rowOk m s (wordAt m (first x)) (row x) ≡ true)
+      → (x y : ℕ) → (x < n) × (y < 256) → f x y ≡ true → (o x && s y) ≡ true
+  bits-stand ok x y h b =
+      ap (λ t. t && s y) (stands-first o m n first e x (h .0))
+      ∙ row-holds m s (wordAt m (first x)) (row x) (ok x (h .0)) y (h .1) (sym (g x y (h .0) (h .1)) ∙ b)
+
+  stand-bits : ((x y : ℕ) → f x y ≡ true → (o x && s y) ≡ true) → (x : ℕ) → x < n → rowOk m s (wordAt m (first x)) (row x) ≡ true
+  stand-bits ok x h =
+      row-passes m s (wordAt m (first x)) (row x) (λ y l b.
+      ap (λ t. t && s y) (sym (stands-first o m n first e x h)) ∙ ok x y (g x y h l ∙ b))
 
 -- ---- from the tests
 
@@ -90,8 +70,8 @@ module _ (m : List ℕ) (ok : tests m ≡ true) where
   abbrev s : ℕ → Bool
   s = stands (modelIn m .containers)
 
-  settings-ok : validSettings (settingsIn m) ≡ true
-  unfolding tests
+  settings-ok : validSettings (modelIn m .settings) ≡ true
+  unfolding tests modelIn
   settings-ok = and-left _ _ ok
 
   container-ok : (c : ℕ) → c < containerSlots → containerOk m c ≡ true
@@ -111,49 +91,41 @@ module _ (m : List ℕ) (ok : tests m ≡ true) where
   sets-ok q h = between-at (setRowsOk m s) 0 policySlots (and-right _ _ (and-right _ _ (and-right _ _ (and-right _ _ ok)))) q zero-le h
 
   -- every slot of a table, and beyond it
-  container-valid : (c : ℕ) → validContainer (settingsIn m) (at (registryIn m .model .containers) c) ≡ true
-  unfolding registryIn modelIn
-  container-valid c =
-      by-ltb (λ t. validContainer (settingsIn m) (at (registryIn m .model .containers) c) ≡ true) c containerSlots
-      (λ l. ap (validContainer (settingsIn m)) (container-at m c l) ∙ container-holds (settingsIn m) m c (container-ok c l) .0)
-      (λ l. ap (validContainer (settingsIn m)) (tab-beyond containerSlots (containerIn m) c none l))
+  container-valid : (x : Settings) (c : ℕ) → validContainer x (at (modelIn m .containers) c) ≡ true
+  container-valid x c =
+      by-ltb (λ t. validContainer x (at (modelIn m .containers) c) ≡ true) c containerSlots
+      (λ l. ap (validContainer x) (container-slot m c l) ∙ container-holds x m c (container-ok c l) .0)
+      (λ l. ap (validContainer x) (container-beyond m c l))
 
-  policy-valid : (q : ℕ) → validPolicy (settingsIn m) (at (registryIn m .model .policies) q) ≡ true
-  unfolding registryIn modelIn
-  policy-valid q =
-      by-ltb (λ t. validPolicy (settingsIn m) (at (registryIn m .model .policies) q) ≡ true) q policySlots
-      (λ l. ap (validPolicy (settingsIn m)) (policy-at m q l) ∙ policy-holds (settingsIn m) m q (policy-ok q l) .0)
-      (λ l. ap (validPolicy (settingsIn m)) (tab-beyond policySlots (policyIn m) q none l))
+  policy-valid : (x : Settings) (q : ℕ) → validPolicy x (at (modelIn m .policies) q) ≡ true
+  policy-valid x q =
+      by-ltb (λ t. validPolicy x (at (modelIn m .policies) q) ≡ true) q policySlots
+      (λ l. ap (validPolicy x) (policy-slot m q l) ∙ policy-holds x m q (policy-ok q l) .0)
+      (λ l. ap (validPolicy x) (policy-beyond m q l))
 
   tests-acceptable : Acceptable (registryIn m)
-  unfolding registryIn modelIn bitsIn
+  unfolding registryIn
   tests-acceptable =
       let b = registry-bounded m in
-      let c = stands (registryIn m .model .containers) in
-      let p = stands (registryIn m .model .policies) in
+      let p = stands (modelIn m .policies) in
       record {
         containers = containers-size m;
         policies = policies-size m;
         settings = settings-ok;
-        container = container-valid;
-        policy = policy-valid;
-        matrix = λ i j t. let l = b .matrix i j t in
-            bits-stand m containerSlots (λ x. x) containerStart c s (container-first m) matrix-ok i j (l .0) (l .1) t;
-        selected = λ i j t. let l = b .selected i j t in
-            bits-stand m policySlots selectedRow policyStart p s (policy-first m) (λ q h. and-left _ _ (sets-ok q h)) i j (l .0) (l .1) t;
-        allowed = λ i j t. let l = b .allowed i j t in
-            bits-stand m policySlots allowedRow policyStart p s (policy-first m) (λ q h. and-right _ _ (sets-ok q h)) i j (l .0) (l .1) t;
+        container = container-valid (modelIn m .settings);
+        policy = policy-valid (modelIn m .settings);
+        matrix = λ i j t. bits-stand m containerSlots containerStart s (container-stands m) (λ x. x) (bitsIn m .matrix) (matrix-in m) s matrix-ok i j (b .matrix i j t) t;
+        selected = λ i j t. bits-stand m policySlots policyStart p (policy-stands m) selectedRow (bitsIn m .selected) (selected-in m) s (λ q h. and-left _ _ (sets-ok q h)) i j (b .selected i j t) t;
+        allowed = λ i j t. bits-stand m policySlots policyStart p (policy-stands m) allowedRow (bitsIn m .allowed) (allowed-in m) s (λ q h. and-right _ _ (sets-ok q h)) i j (b .allowed i j t) t;
       }
 
   container-word : (c k : ℕ) → c < containerSlots → k < 9 → wordAt m (containerStart c + k) ≡ containerWord (at (modelIn m .containers) c) k
-  unfolding registryIn
   container-word c k hc hk =
-      container-holds (settingsIn m) m c (container-ok c hc) .1 k hk ∙ ap (λ o. containerWord o k) (sym (container-at m c hc))
+      container-holds (settingsIn m) m c (container-ok c hc) .1 k hk ∙ ap (λ o. containerWord o k) (sym (container-slot m c hc))
 
   policy-word : (q k : ℕ) → q < policySlots → k < 11 → wordAt m (policyStart q + k) ≡ policyWord (at (modelIn m .policies) q) k
-  unfolding registryIn
   policy-word q k hq hk =
-      policy-holds (settingsIn m) m q (policy-ok q hq) .1 k hk ∙ ap (λ o. policyWord o k) (sym (policy-at m q hq))
+      policy-holds (settingsIn m) m q (policy-ok q hq) .1 k hk ∙ ap (λ o. policyWord o k) (sym (policy-slot m q hq))
 
   settings-word : (k : ℕ) → k < 3 → wordAt m k ≡ settingsWord (modelIn m .settings) k
   unfolding modelIn settingsIn
@@ -182,31 +154,40 @@ module _ (m : List ℕ) (ok : tests m ≡ true) where
 
 -- ---- to the tests
 
-module _ (m : List ℕ) (ok : Acceptable (registryIn m)) (h : Holds m (contentsOf (registryIn m))) where
+module _ (m : List ℕ) (e : wellFormed m ≡ true) where
+  accepted : Acceptable (registryIn m)
+  accepted = formed-memory m e .acceptable
+
   container-pass : (c : ℕ) → c < containerSlots → containerOk m c ≡ true
+  unfolding registryIn
   container-pass c l =
-      container-passes (registryIn m .model .settings) m c
-      (ap (validContainer (registryIn m .model .settings)) (sym (container-at m c l)) ∙ ok .container c)
-      (λ k b. container-words (registryIn m) m h c l k b ∙ ap (λ o. containerWord o k) (container-at m c l))
+      let s = registryIn m .model .settings in
+      container-passes s m c (ap (validContainer s) (sym (container-slot m c l)) ∙ accepted .container c) (formed-container m e c l)
 
   policy-pass : (q : ℕ) → q < policySlots → policyOk m q ≡ true
+  unfolding registryIn
   policy-pass q l =
-      policy-passes (registryIn m .model .settings) m q
-      (ap (validPolicy (registryIn m .model .settings)) (sym (policy-at m q l)) ∙ ok .policy q)
-      (λ k b. policy-words (registryIn m) m h q l k b ∙ ap (λ o. policyWord o k) (policy-at m q l))
+      let s = registryIn m .model .settings in
+      policy-passes s m q (ap (validPolicy s) (sym (policy-slot m q l)) ∙ accepted .policy q) (formed-policy m e q l)
+
+  settings-pass : validSettings (settingsIn m) ≡ true
+  unfolding registryIn modelIn
+  settings-pass = accepted .settings
 
   tests-pass : tests m ≡ true
-  unfolding tests containersOk policiesOk matrixOk setsOk registryIn modelIn bitsIn
+  unfolding tests containersOk policiesOk matrixOk setsOk registryIn
   tests-pass =
-      let c = stands (registryIn m .model .containers) in
-      let p = stands (registryIn m .model .policies) in
-      and-passes _ _ (ok .settings)
-      (and-passes _ _ (between-all (containerOk m) 0 containerSlots (λ k a b. container-pass k b))
-      (and-passes _ _ (between-all (policyOk m) 0 policySlots (λ k a b. policy-pass k b))
-      (and-passes _ _ (between-all (matrixRowOk m c) 0 containerSlots (λ k a b. stand-bits m containerSlots (λ x. x) containerStart c c (container-first m) (ok .matrix) k b))
-      (between-all (setRowsOk m c) 0 policySlots (λ k a b.
-      and-passes _ _ (stand-bits m policySlots selectedRow policyStart p c (policy-first m) (ok .selected) k b)
-      (stand-bits m policySlots allowedRow policyStart p c (policy-first m) (ok .allowed) k b))))))
+      let a = accepted in
+      let c = stands (modelIn m .containers) in
+      let p = stands (modelIn m .policies) in
+      and-passes _ _ settings-pass
+      (and-passes _ _ (between-all (containerOk m) 0 containerSlots (λ k l h. container-pass k h))
+      (and-passes _ _ (between-all (policyOk m) 0 policySlots (λ k l h. policy-pass k h))
+      (and-passes _ _ (between-all (matrixRowOk m c) 0 containerSlots (λ k l h.
+      stand-bits m containerSlots containerStart c (container-stands m) (λ x. x) (bitsIn m .matrix) (matrix-in m) c (a .matrix) k h))
+      (between-all (setRowsOk m c) 0 policySlots (λ k l h.
+      and-passes _ _ (stand-bits m policySlots policyStart p (policy-stands m) selectedRow (bitsIn m .selected) (selected-in m) c (a .selected) k h)
+      (stand-bits m policySlots policyStart p (policy-stands m) allowedRow (bitsIn m .allowed) (allowed-in m) c (a .allowed) k h))))))
 
 -- the law
 pub tests-formed : (m : List ℕ) → Whole m → ((k : ℕ) → wordAt m k < 2 ^ 64) → tests m ≡ wellFormed m
@@ -217,7 +198,7 @@ tests-formed m w fit =
       acceptable = tests-acceptable m t;
       canonical = sym (written (registryIn m) m (tests-hold m t w) fit);
     }))
-    (λ e. tests-pass m (formed-memory m e .acceptable) (formed-holds m e))
+    (λ e. tests-pass m e)
 
 -- no memory of another size is well formed
 pub not-whole : (m : List ℕ) → (Whole m → ⊥) → wellFormed m ≡ false

@@ -1,4 +1,4 @@
--- The test of a memory as the code makes it, word by word and row by row (proofs/Formed.antt: it is `wellFormed`). Assumes nothing.
+-- The test of a memory as the code makes it, word by word and row by row (proofs/TestsFormed.antt: it is `wellFormed`). Assumes nothing.
 use mathlib.Core.Bool.{Bool, true, false, not, _&&_, cond}
 use mathlib.Core.List.{List}
 use Prim.Native.Nat.{ℕ, zero, suc, _+_, _*_, _-_, _/_, _%_}

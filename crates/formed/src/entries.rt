@@ -1,7 +1,6 @@
 // Entries read from memory: labels of parts, the trial of a part, the search for a free slot.
 ghost use mathlib.Core.Path.{_≡_};
-ghost use Prim.Native.Nat.{_+_, _*_, _-_, _≤_, _<_};
-ghost use lib.ListN.{length};
+ghost use Prim.Native.Nat.{_-_};
 ghost use Rattle.bitrow.specs.Bit.{bitAt};
 ghost use Rattle.bitrow.specs.Set.{firstOf};
 ghost use Rattle.model.specs.Rules.{carries as carriesLabel, matches as matchesPart};
@@ -14,13 +13,13 @@ use bitrow::Found;
 use model::ContainerSlot;
 use model::PolicySlot;
 
-// The lowest free container slot, or none.
+// The lowest free container slot, or that the table is full.
 pub enum FreeContainer {
     At(ContainerSlot),
     Full,
 }
 
-// The lowest free policy slot, or none.
+// The lowest free policy slot, or that the table is full.
 pub enum FreePolicy {
     At(PolicySlot),
     Full,
@@ -109,6 +108,7 @@ fn lowest_free(memory: &[u64], start: usize, words: usize, slot: usize, slots: u
     lowest_free(memory, start, words, slot + 1, slots)
 }
 
+// The lowest free container slot.
 pub fn free_container(memory: &[u64]) -> FreeContainer
     requires { ⌜ Whole (now memory) ⌝ }
     ensures { λ r. ⌜ r ≡ freeContainer (lowestFree (modelIn (now (memory .entry)) .containers)) ⌝ }
@@ -120,6 +120,7 @@ pub fn free_container(memory: &[u64]) -> FreeContainer
     }
 }
 
+// The lowest free policy slot.
 pub fn free_policy(memory: &[u64]) -> FreePolicy
     requires { ⌜ Whole (now memory) ⌝ }
     ensures { λ r. ⌜ r ≡ freePolicy (lowestFree (modelIn (now (memory .entry)) .policies)) ⌝ }

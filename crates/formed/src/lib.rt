@@ -2,7 +2,7 @@
 pub mod entries;
 
 ghost use mathlib.Core.Path.{_≡_};
-ghost use Prim.Native.Nat.{_+_, _*_, _-_, _<_, _≤_};
+ghost use Prim.Native.Nat.{_+_, _*_, _<_, _≤_};
 ghost use lib.ListN.{length};
 ghost use Rattle.block.specs.Reader.{within};
 ghost use Rattle.block.specs.Written.{validSettings};

@@ -8,7 +8,7 @@ use native.Mathlib.Omega.{arith}
 use lib.Dec.{eqb, ltb}
 use borrow.Author.Tests.{ltb-true, ltb-false, eqb-true, lt-ltb, le-ltb, eq-eqb, ne-eqb}
 use Rattle.model.specs.declared.Finding.{Finding}
-use Rattle.model.specs.declared.Cursor.{Cursor}
+use Rattle.model.specs.Findings.{Cursor}
 use Rattle.model.specs.Table.{any, count}
 use Rattle.model.specs.Model.{Model, Bits}
 use Rattle.model.specs.Findings.{finding, Kind, kinds, rowOf, ofKind, ofKinds, findings, shown, placeOf, after, irrelevance}

@@ -7,7 +7,7 @@ use Prim.Native.Nat.{ℕ, zero, suc, _≤_}
 use native.Mathlib.Nat.{le-of-suc-le-suc, not-suc-le-zero}
 use lib.ListN.{length}
 use Rattle.model.specs.declared.Finding.{Finding}
-use Rattle.model.specs.declared.Cursor.{Cursor}
+use Rattle.model.specs.Findings.{Cursor}
 use Rattle.model.specs.Table.{first}
 use Rattle.model.specs.Model.{Model, Bits}
 use Rattle.model.specs.Findings.{findings, shown, placeOf, after, nextAfter, start, walk}

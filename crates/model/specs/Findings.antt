@@ -6,7 +6,6 @@ use Prim.Native.Nat.{ℕ, zero, suc, _+_}
 use lib.Dec.{eqb, ltb, leb}
 use Rattle.block.specs.Entry.{Container, Policy}
 use Rattle.model.specs.declared.Finding.{Finding}
-use Rattle.model.specs.declared.Cursor.{Cursor}
 use Rattle.model.specs.Table.{any, all, count, first, on, at, stands, standing, below}
 use Rattle.model.specs.Rules.{carries, sameDirection}
 use Rattle.model.specs.Model.{containerSlots, Model, Bits}
@@ -139,6 +138,12 @@ shown m s g =
     || (eqb (g .kind) 7 && (p (g .a) && irrelevance m s (g .a) (g .b))))))))
 
 -- ---- the next finding
+
+-- A place in the list: any three numbers.
+pub record Cursor : Type 0 where
+  pub kind : ℕ
+  pub a : ℕ
+  pub b : ℕ
 
 -- the three numbers of a finding as a place in the list
 abbrev pub placeOf : Finding → Cursor

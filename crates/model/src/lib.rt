@@ -13,13 +13,6 @@ pub struct Finding {
     pub b: u16,
 }
 
-// A place in the list of findings: any three numbers.
-pub struct Cursor {
-    pub kind: u16,
-    pub a: u16,
-    pub b: u16,
-}
-
 // Why a call is refused.
 pub enum Refusal {
     MemorySize,

@@ -1,12 +1,12 @@
 -- The list of calls, computed through the model's step; and so answered on every memory. Assumes nothing.
-use mathlib.Core.Path.{_≡_, refl, sym, ap, subst, _∙_}
-use mathlib.Core.Bool.{Bool, true, false}
+use mathlib.Core.Path.{_≡_, refl, sym, ap, _∙_}
+use mathlib.Core.Bool.{true, false}
 use mathlib.Core.List.{List, [], _∷_, _++_, map}
-use mathlib.Core.Option.{Option, none, some}
+use mathlib.Core.Option.{none, some}
 use Prim.Native.Nat.{ℕ}
 use lib.Dec.{eqb}
 use lib.ListN.{length, replicate}
-use Rattle.block.specs.Entry.{Label, Container, Direction, ingress, egress, Settings, Entry, container, policy}
+use Rattle.block.specs.Entry.{Label, Direction, ingress, egress, Settings, Entry, container, policy}
 use Rattle.block.specs.Refusal.{Refusal, Read, refused, accepted}
 use Rattle.block.specs.Bytes
 use Rattle.block.specs.Reader
@@ -22,7 +22,7 @@ use Rattle.model.specs.Findings
 use Rattle.model.specs.Findings.{containersOf, policiesOf, pairsIn}
 use Rattle.model.specs.Stars.{label, policyTo}
 use Rattle.model.specs.Calls.{Call, openWith, admit, removeContainer, removePolicy, askReaches, askUser, nextFinding, counts, rebuild, audit}
-use Rattle.model.specs.Calls.{Answer, refusal, done, containerAt, policyAt, says, found, noFinding, counted}
+use Rattle.model.specs.Calls.{Answer, refusal, says, counted}
 use Rattle.model.specs.ModelStep
 use Rattle.model.specs.ModelStep.{opening, admitting, modelStep}
 use Rattle.model.proofs.Agreement.{Sized, sized-step, sized-empty}
@@ -31,7 +31,7 @@ use Rattle.store.specs.Layout.{memoryWords}
 use Rattle.steps.specs.MemoryStep.{memoryStep}
 use Rattle.steps.specs.Refinement.{Lending, ours, other, Seen, onMemory, onModel, Refinement}
 use Rattle.steps.specs.Listed
-use Rattle.steps.specs.Listed.{Line, callsOf, seenOf, listed, printedSettings, otherSettings, noLabels}
+use Rattle.steps.specs.Listed.{callsOf, seenOf, listed, printedSettings, otherSettings, noLabels}
 use Rattle.steps.specs.Listed.{shortBlock, uncheckedBlock, kindBlock, nineBlock, valueBlock, orderBlock, unusedBlock, keyBlock}
 use Rattle.steps.proofs.Outcomes.{open-done}
 use Rattle.steps.proofs.Refinement.{refinement}

@@ -1,28 +1,25 @@
 -- The outcomes of each call, in the form in which a function's `return` cites them. Assumes nothing.
-use mathlib.Core.Path.{_≡_, refl, sym, ap, _∙_}
-use mathlib.Core.Bool.{Bool, true, false, true≢false, not, _&&_, _||_, cond, or-true}
+use mathlib.Core.Path.{_≡_, refl, ap, _∙_}
+use mathlib.Core.Bool.{Bool, true, false, true≢false, not, cond, or-true}
 use mathlib.Core.List.{List, [], _∷_, _++_}
 use mathlib.Core.Option.{Option, none, some}
-use Prim.Native.Nat.{ℕ, zero, suc, _≤_, _<_}
-use native.Mathlib.Omega.{arith}
+use Prim.Native.Nat.{ℕ, _≤_, _<_}
 use lib.Dec.{leb}
 use lib.ListN.{length}
 use borrow.Author.Tests.{eq-eqb, ne-eqb, le-leb, lt-leb}
-use Rattle.block.specs.declared.Fault.{Fault}
-use Rattle.block.specs.declared.Fault.the-variants.{Nowhere, At}
 use Rattle.block.specs.Entry.{Container, Policy, Settings, Entry, container, policy}
-use Rattle.block.specs.Refusal.{Refusal, Check, check, refuse, firstRefusal, Read, refused, accepted}
+use Rattle.block.specs.Refusal.{Refusal, Check, check, firstRefusal, refused, accepted}
 use Rattle.block.specs.Refusal.{unlessRefused as readUnless}
 use Rattle.block.specs.Reader.{settingsChecks, entryChecks, settingsIn, entryIn, readSettings, readEntry}
-use Rattle.model.specs.declared.Cursor.{Cursor}
-use Rattle.model.specs.Table.{Table, on, isFree, at, free, full, lowestFree}
+use Rattle.model.specs.Findings.{Cursor}
+use Rattle.model.specs.Table.{Table, on, isFree, at, free, lowestFree}
 use Rattle.model.specs.Rules.{carries}
-use Rattle.model.specs.Model.{containerSlots, policySlots, Model}
+use Rattle.model.specs.Model.{containerSlots, policySlots}
 use Rattle.model.specs.Findings.{containersOf, policiesOf, nextAfter, pairs}
 use Rattle.model.specs.Calls.{Call, openWith, admit, removeContainer, removePolicy, askReaches, askUser, nextFinding, counts, rebuild, audit}
-use Rattle.model.specs.Calls.{Answer, refusal, done, containerAt, policyAt, says, counted, foundAnswer}
-use Rattle.model.specs.Registry.{Registry, computed, consistent, changeContainer, changePolicy, opened, rebuilt}
-use Rattle.model.specs.Refusals.{where0, beyond, slotChecks, pairChecks, noRoom, refusals}
+use Rattle.model.specs.Calls.{refusal, done, containerAt, policyAt, says, counted, foundAnswer}
+use Rattle.model.specs.Registry.{computed, consistent, changeContainer, changePolicy, opened, rebuilt}
+use Rattle.model.specs.Refusals.{where0, slotChecks, pairChecks, noRoom, refusals}
 use Rattle.model.specs.RegistryStep.{admitContainer, admitPolicy, admitEntry, takePolicy, acceptedStep}
 use Rattle.model.proofs.Tables.{free-at, full-lowest}
 use Rattle.model.proofs.Agreement.{Sized, orRefusal, first-append}
@@ -30,7 +27,7 @@ use Rattle.store.specs.Layout.{memoryWords}
 use Rattle.store.proofs.Image.{length-tab}
 use Rattle.formed.specs.Registry.{modelIn, bitsIn, registryIn, image, wellFormed}
 use Rattle.formed.proofs.Formed.{formed-memory}
-use Rattle.steps.specs.MemoryStep.{otherSize, formedCheck, meetsFormed, memoryRefusals, changes, memoryOutcome, memoryStep}
+use Rattle.steps.specs.MemoryStep.{formedCheck, meetsFormed, memoryRefusals, changes, memoryOutcome, memoryStep}
 
 -- ---- any call
 

@@ -1,10 +1,9 @@
 -- Demand 3: over every list of calls the memory's steps answer as the model's, and leave the image of the model left. Assumes nothing.
 use mathlib.Core.Path.{_≡_, refl, sym, ap, subst, _∙_}
-use mathlib.Core.Bool.{Bool, true, false, cond}
+use mathlib.Core.Bool.{cond}
 use mathlib.Core.List.{List, [], _∷_}
 use mathlib.Core.Option.{Option, none, some}
-use Prim.Native.Nat.{ℕ, zero, suc, _≤_}
-use native.Mathlib.Omega.{arith}
+use Prim.Native.Nat.{ℕ, zero, suc}
 use lib.ListN.{length}
 use Rattle.block.specs.Entry.{Settings}
 use Rattle.block.specs.Refusal.{Refusal, firstRefusal, accepted}
@@ -12,24 +11,24 @@ use Rattle.block.specs.Refusal.{unlessRefused as readUnless}
 use Rattle.block.specs.Reader.{settingsChecks, settingsIn, readSettings}
 use Rattle.block.proofs.Accepted.{settings-valid}
 use Rattle.model.specs.declared.Finding.{Finding}
-use Rattle.model.specs.declared.Cursor.{Cursor}
-use Rattle.model.specs.Findings.{placeOf, nextAfter, findings, start, walk}
+use Rattle.model.specs.Findings.{Cursor}
+use Rattle.model.specs.Findings.{placeOf, nextAfter, start, walk}
 use Rattle.model.specs.Model.{Model, empty, computedBits}
 use Rattle.model.specs.Calls.{Call, openWith, admit, removeContainer, removePolicy, askReaches, askUser, nextFinding, counts, rebuild, audit}
-use Rattle.model.specs.Calls.{Answer, refusal, done, foundAnswer}
+use Rattle.model.specs.Calls.{Answer, done, foundAnswer}
 use Rattle.model.specs.ModelStep.{modelStep}
 use Rattle.model.specs.Registry.{Registry, computed}
 use Rattle.model.specs.Refusals.{refusals}
 use Rattle.model.specs.RegistryStep.{acceptedStep, unlessRefused, registryStep}
 use Rattle.model.proofs.Unchanged.{opened-computed}
-use Rattle.model.proofs.Agreement.{Sized, asComputed, step-agrees, sized-empty, sized-step}
+use Rattle.model.proofs.Agreement.{Sized, step-agrees, sized-empty, sized-step}
 use Rattle.model.proofs.Next.{walk-meets-all}
 use Rattle.store.specs.Layout.{memoryWords}
 use Rattle.formed.specs.Registry.{modelIn, bitsIn, registryIn, image, Acceptable, wellFormed}
 use Rattle.formed.proofs.Back.{registry-image}
 use Rattle.formed.proofs.Formed.{acceptable-image}
 use Rattle.steps.specs.MemoryStep.{changes, memoryOutcome, memoryStep}
-use Rattle.steps.specs.Refinement.{Lending, ours, other, Seen, onMemory, onModel, followed, modelFindings, walkOn, Refined, Refinement}
+use Rattle.steps.specs.Refinement.{Lending, ours, other, onMemory, onModel, followed, walkOn, Refined, Refinement}
 use Rattle.steps.proofs.Outcomes.{step-size, step-past, open-past, open-done}
 use Rattle.steps.proofs.Valid.{Valid, acceptable-computed, valid-empty, valid-step}
 

@@ -8,13 +8,12 @@ use mathlib.Core.Option.{Option, none, some}
 use Prim.Native.Nat.{ℕ}
 use native.Mathlib.Omega.{arith}
 use lib.Dec.{eqb}
-use Rattle.block.specs.declared.Fault.{Fault}
 use Rattle.block.specs.declared.Fault.the-variants.{Nowhere, At}
 use Rattle.block.specs.Refusal.{Refusal, Check, firstRefusal}
 use Rattle.block.specs.Reader.{settingsChecks, entryChecks}
 use Rattle.block.proofs.Accepted.{Clear, none-clear}
 use Rattle.model.specs.Calls.{Call, openWith, admit, removeContainer, removePolicy, askReaches, askUser, nextFinding, counts, rebuild, audit}
-use Rattle.model.specs.Calls.{Answer, refusal}
+use Rattle.model.specs.Calls.{refusal}
 use Rattle.model.specs.Registry.{Registry}
 use Rattle.model.specs.Refusals.{refusals, faultOf, Refuses}
 use Rattle.model.specs.RegistryStep.{acceptedStep, unlessRefused, registryStep}

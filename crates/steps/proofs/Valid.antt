@@ -1,23 +1,23 @@
 -- A model whose entries are valid has an acceptable registry, and every call leaves such a model such: what is read is valid.
 -- Assumes nothing.
-use mathlib.Core.Path.{_≡_, refl, sym, ap, _∙_}
+use mathlib.Core.Path.{_≡_, refl}
 use mathlib.Core.Bool.{Bool, true, false, _&&_, cond}
-use mathlib.Core.List.{List, [], _∷_}
+use mathlib.Core.List.{[], _∷_}
 use mathlib.Core.Option.{Option, none, some}
 use Prim.Native.Nat.{ℕ, zero, suc}
 use lib.Dec.{ltb}
-use lib.ListN.{length, set, replicate}
+use lib.ListN.{set, replicate}
 use Rattle.block.specs.Entry.{Container, Policy, Settings, Entry, container, policy}
 use Rattle.block.specs.Refusal.{Read, refused, accepted}
 use Rattle.block.specs.Reader.{readSettings, readEntry}
 use Rattle.block.specs.Written.{validSettings, validEntry}
 use Rattle.block.proofs.Accepted.{settings-valid, accepted-valid}
-use Rattle.model.specs.Table.{Table, on, at, stands, lowestFree}
+use Rattle.model.specs.Table.{Table, on, at, lowestFree}
 use Rattle.model.specs.Model.{containerSlots, policySlots, Model, empty, withContainer, withPolicy, matrixBit, selectedBit, allowedBit, computedBits}
 use Rattle.model.specs.Calls.{Call, openWith, admit, removeContainer, removePolicy, askReaches, askUser, nextFinding, counts, rebuild, audit, refusal}
 use Rattle.model.specs.ModelStep.{opening, placing, placingPolicy, admitting, removing, removingPolicy, modelStep}
 use Rattle.model.specs.Registry.{computed}
-use Rattle.model.proofs.Agreement.{Sized, sized-empty, sized-step}
+use Rattle.model.proofs.Agreement.{Sized}
 use Rattle.formed.specs.Registry.{freeOr, Acceptable}
 
 -- the entry of a container's slot, of a policy's slot, is one that admit would accept under these settings

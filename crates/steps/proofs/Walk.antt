@@ -1,17 +1,17 @@
 -- A walk ends because next finding says that there is none. Assumes nothing.
-use mathlib.Core.Path.{_≡_, refl, sym, ap, subst, _∙_}
+use mathlib.Core.Path.{_≡_, sym, ap, subst, _∙_}
 use mathlib.Core.Bool.{true}
 use mathlib.Core.List.{List, [], _∷_}
 use mathlib.Core.Option.{Option, none, some}
-use Prim.Native.Nat.{ℕ, suc, _≤_}
+use Prim.Native.Nat.{ℕ, suc}
 use native.Mathlib.Omega.{arith}
 use lib.ListN.{length}
 use Rattle.block.specs.Entry.{Settings}
 use Rattle.model.specs.declared.Finding.{Finding}
-use Rattle.model.specs.declared.Cursor.{Cursor}
+use Rattle.model.specs.Findings.{Cursor}
 use Rattle.model.specs.Findings.{placeOf, nextAfter, start}
 use Rattle.model.specs.Model.{empty}
-use Rattle.model.specs.Calls.{nextFinding, Answer, found, noFinding, foundAnswer}
+use Rattle.model.specs.Calls.{nextFinding, found, noFinding, foundAnswer}
 use Rattle.formed.specs.Registry.{modelIn, bitsIn, wellFormed}
 use Rattle.steps.specs.MemoryStep.{memoryStep}
 use Rattle.steps.specs.Refinement.{Lending, onMemory, onModel, followed, modelFindings, walkOn, Refined}

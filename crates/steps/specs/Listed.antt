@@ -2,14 +2,14 @@
 use mathlib.Core.Path.{_≡_, refl, sym, _∙_}
 use mathlib.Core.Bool.{true, false}
 use mathlib.Core.List.{List, [], _∷_, _++_, map}
-use mathlib.Core.Option.{Option, none, some}
+use mathlib.Core.Option.{none, some}
 use Prim.Native.Nat.{ℕ, zero, suc}
 use lib.Dec.{eqb}
 use lib.ListN.{length, replicate, length-replicate}
 use borrow.Author.Tests.{eqb-false}
 use Rattle.block.specs.Entry.{Label, Direction, ingress, egress, Settings, Entry, container, policy}
 use Rattle.block.specs.Written.{sealed, blockOf, settingsBlock}
-use Rattle.model.specs.declared.Cursor.{Cursor}
+use Rattle.model.specs.Findings.{Cursor}
 use Rattle.model.specs.Findings.{finding, start}
 use Rattle.model.specs.Stars.{label, policyTo}
 use Rattle.model.specs.Calls.{Call, openWith, admit, removeContainer, removePolicy, askReaches, askUser, nextFinding, counts, rebuild, audit}

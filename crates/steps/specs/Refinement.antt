@@ -7,7 +7,7 @@ use Prim.Native.Nat.{ℕ, zero, suc, _≤_}
 use lib.ListN.{length}
 use Rattle.block.specs.Entry.{Settings}
 use Rattle.model.specs.declared.Finding.{Finding}
-use Rattle.model.specs.declared.Cursor.{Cursor}
+use Rattle.model.specs.Findings.{Cursor}
 use Rattle.block.specs.Reader.{settingsIn}
 use Rattle.model.specs.Findings.{findings, start}
 use Rattle.formed.specs.Registry.{modelIn, bitsIn, wellFormed}

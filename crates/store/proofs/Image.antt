@@ -13,6 +13,7 @@ use Rattle.bitrow.specs.Set.{one}
 use Rattle.bitrow.proofs.Words.{bit-shr, word-ext}
 use Rattle.store.specs.Layout.{memoryWords, rowsStart, rowStart, wordAt, rowBit}
 use Rattle.store.specs.Contents.{Contents, Holds, tab, packed, imageWord, imageOf}
+use Rattle.store.proofs.Carried.{SameContents}
 use Rattle.store.proofs.Cases.{by-ltb}
 
 -- ---- tables
@@ -151,10 +152,6 @@ module _ (c : Contents) where
       (λ h. omega (arith, image-entry k h, fit k h)) (λ h. image-rows-fit k h)
 
 -- contents that agree before the rows and within them have one image
-pub record SameContents (c d : Contents) : Type 0 where
-  pub words : (k : ℕ) → k < rowsStart → c .words k ≡ d .words k
-  pub bits : (r y : ℕ) → r < 512 → y < 256 → c .bits r y ≡ d .bits r y
-
 pub image-same : (c d : Contents) → SameContents c d → imageOf c ≡ imageOf d
 unfolding imageOf imageWord
 image-same c d s =
@@ -162,7 +159,3 @@ image-same c d s =
     by-ltb (λ t. cond t (c .words k) (packed 64 (wordBits c k)) ≡ cond t (d .words k) (packed 64 (wordBits d k))) k rowsStart
     (λ h. s .words k h)
     (λ h. packed-cong 64 (wordBits c k) (wordBits d k) (λ i b. s .bits ((k - rowsStart) / 4) ((k - rowsStart) % 4 * 64 + i) (omega arith) (omega arith))))
-
--- what a memory holds, said otherwise
-pub holds-as : {m : List ℕ} {c : Contents} → Holds m c → (d : Contents) → SameContents c d → Holds m d
-holds-as h d s = record { whole = h .whole; words = λ k l. h .words k l ∙ s .words k l; bits = λ r y a b. h .bits r y a b ∙ s .bits r y a b }

@@ -1,5 +1,6 @@
 use mathlib.Core.Path.{_≡_}
-use Prim.Native.Nat.{_-_, _≤_}
+use Prim.Native.Nat.{_+_, _*_, _-_, _≤_, _<_}
+use lib.ListN.{length}
 use native.Mathlib.Omega.{arith}
 use Rattle.bitrow.specs.Bit.{bit}
 use Rattle.bitrow.specs.Set.{meet, under}
@@ -18,17 +19,22 @@ abbrev μ-loop : tie.MeasureT-loop
 loop-holds : tie.Need-loop-holds Inv-loop μ-loop
 loop-holds c = (search needs, heads-none _ _ _)
 
+-- the slot's first word lies within the memory
+slot : (c : tie.In-loop Inv-loop μ-loop)
+    → c .before .before .args .at + c .before .before .args .step * c .before .loop .i < length (c .before .before .args .memory .now)
+slot c = let s = c .before .before in slot-within (s .args .at) (s .args .step) (c .before .loop .i) 64 _ (c .loop-test .taken) (s .pre .1) (s .pre .0)
+
 mul-if1 : tie.Need-mul-if1 Inv-loop μ-loop
-mul-if1 c = let s = c .before .before in let w = slot-within (s .args .at) (s .args .step) (c .before .loop .i) 64 _ (c .loop-test .taken) (s .pre .1) (s .pre .0) in omega arith
+mul-if1 c = let w = slot c in omega arith
 
 add-if1 : tie.Need-add-if1 Inv-loop μ-loop
-add-if1 c = let s = c .before .before in let w = slot-within (s .args .at) (s .args .step) (c .before .loop .i) 64 _ (c .loop-test .taken) (s .pre .1) (s .pre .0) in omega arith
+add-if1 c = let w = slot c in omega arith
 
 mul-if1-2 : tie.Need-mul-if1-2 Inv-loop μ-loop
-mul-if1-2 c = let s = c .before .before in let w = slot-within (s .args .at) (s .args .step) (c .before .loop .i) 64 _ (c .loop-test .taken) (s .pre .1) (s .pre .0) in omega arith
+mul-if1-2 c = let w = slot c in omega arith
 
 shared-slice-read-if1 : tie.Need-shared-slice-read-if1 Inv-loop μ-loop
-shared-slice-read-if1 c = let s = c .before .before .before in slot-within (s .args .at) (s .args .step) (c .before .before .loop .i) 64 _ (c .before .loop-test .taken) (s .pre .1) (s .pre .0)
+shared-slice-read-if1 c = slot (c .before)
 
 loop-again : tie.Need-loop-again Inv-loop μ-loop
 loop-again c =

@@ -1,0 +1,11 @@
+use mathlib.Core.Path.{refl}
+use Rattle.block.specs.Reading.{packed}
+use Rattle.block.proofs.no_labels.Statement.{statement}
+use Rattle.block.proofs.no_labels.Tie as tie
+
+returns : tie.Need-returns
+unfolding packed
+returns c = refl
+
+pub no-labels-spec : {M : Type 1} → statement M
+no-labels-spec = tie.close (tie.spec returns)

@@ -1,0 +1,12 @@
+use mathlib.Core.Path.{refl}
+use borrow.Author.Needs.{needs}
+use Rattle.block.specs.Reading.{entryWords}
+use Rattle.block.proofs.refused_entry.Statement.{statement}
+use Rattle.block.proofs.refused_entry.Tie as tie
+
+returns : tie.Need-returns
+unfolding entryWords
+returns c = (refl, cc)
+
+pub refused-entry-spec : {M : Type 1} → statement M
+refused-entry-spec = tie.close (tie.spec (λ c κs. search needs) (λ c κs. search needs) returns)

@@ -1,0 +1,13 @@
+use borrow.Author.Needs.{needs}
+use Rattle.block.proofs.Passing.{joined, tested}
+use Rattle.block.proofs.system_fault.Statement.{statement}
+use Rattle.block.proofs.system_fault.Tie as tie
+
+returns : tie.Need-returns
+returns c =
+    joined _ _ _ _ _ (c .or-else .ensures) (c .before .before .before .unless .ensures) (tested _ _ _ _ (c .before .unless2 .ensures) (c .before .before .value-fits .ensures))
+
+pub system-fault-spec : {M : Type 1} → statement M
+system-fault-spec =
+    tie.close
+    (tie.spec (λ c κs. search needs) (λ c κs. search needs) (λ c κs. search needs) (λ c κs. search needs) returns)

@@ -1,0 +1,4 @@
+-- The laws of rows and columns by the rules.
+pub mod Unions
+pub mod Model
+pub mod Candidates

@@ -1,0 +1,3 @@
+-- What the contracts of `reach` cite.
+pub mod Lets
+pub mod Sets

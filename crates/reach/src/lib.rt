@@ -1,0 +1,3 @@
+// Candidate sets by the entries, and a row and a column of the matrix by the written rules.
+pub mod rules;
+pub mod sets;
