@@ -1,0 +1,4 @@
+-- The laws behind the proofs of `changes`.
+pub mod ContainerLaws
+pub mod PolicyLaws
+pub mod WholeLaws

@@ -1,0 +1,96 @@
+-- What the change of a policy does to a registry and to its memory, step by step. Assumes nothing.
+use mathlib.Core.Path.{_≡_}
+use mathlib.Core.Bool.{Bool, true, _&&_, cond}
+use mathlib.Core.List.{List}
+use mathlib.Core.Option.{Option}
+use Prim.Native.Nat.{ℕ, _<_}
+use lib.Dec.{eqb}
+use lib.ListN.{getD}
+use Rattle.block.specs.declared.Labels.{Labels}
+use Rattle.block.specs.Entry.{Policy, Settings, policy}
+use Rattle.block.specs.Reader.{directionOf}
+use Rattle.block.specs.Reading.{packed}
+use Rattle.block.specs.Written.{directionNumber, validLabels, validEntry}
+use Rattle.model.specs.Table.{on, at}
+use Rattle.model.specs.Rules.{selects}
+use Rattle.model.specs.Model.{withPolicy, Model, matrixBit, selectedBit, allowedBit}
+use Rattle.model.specs.Registry.{Registry, setWhere, touched}
+use Rattle.store.specs.Contents.{Contents, Holds}
+use Rattle.store.specs.Memory.{withRow}
+use Rattle.formed.specs.Words.{policyWord}
+use Rattle.formed.specs.Registry.{freeOr, modelIn, registryIn, image}
+use Rattle.changes.specs.Labels.{unpacked}
+
+-- ---- a policy as words
+
+-- the policy that a direction's number and two lists of labels say
+unfoldable pub policyOf : ℕ → Labels → Labels → Policy
+policyOf d s a = record { direction = directionOf d; select = unpacked s; allow = unpacked a }
+
+-- words that say a policy, as the reader of blocks hands them over
+pub record PolicyWords (p : Policy) (d : ℕ) (s a : Labels) : Type 0 where
+  pub direction : d ≡ directionNumber (p .direction)
+  pub select : s ≡ packed (p .select)
+  pub allow : a ≡ packed (p .allow)
+  pub valid : (t : Settings) → validEntry t (policy p) ≡ true
+
+-- the words of a slot that holds x, a policy that may stand or none
+pub record SlotWords (x : Option Policy) (ws : List ℕ) : Type 0 where
+  pub valid : (t : Settings) → freeOr (λ p. validEntry t (policy p)) x ≡ true
+  pub word : (k : ℕ) → k < 11 → getD ws k 0 ≡ policyWord x k
+
+-- the words of a slot
+pub record SomeSlot (ws : List ℕ) : Type 0 where
+  pub entry : Option Policy
+  pub words : SlotWords entry ws
+
+-- ---- the change, step by step
+
+-- x at slot q, whose two sets are s and a
+unfoldable pub placed : Registry → ℕ → Option Policy → (ℕ → Bool) → (ℕ → Bool) → Registry
+placed r q x s a = record {
+  model = withPolicy (r .model) q x;
+  bits = record {
+    matrix = r .bits .matrix;
+    selected = λ i. cond (eqb i q) s (r .bits .selected i);
+    allowed = λ i. cond (eqb i q) a (r .bits .allowed i);
+  };
+}
+
+-- x at slot q, its two sets by the entries
+unfoldable pub settled : Registry → ℕ → Option Policy → Registry
+settled r q x = let m = withPolicy (r .model) q x in placed r q x (selectedBit m q) (allowedBit m q)
+
+pub record Settles (m : List ℕ) (q : ℕ) (ws m′ : List ℕ) : Type 0 where
+  pub says : (x : Option Policy) → SlotWords x ws → m′ ≡ image (settled (registryIn m) q x)
+
+-- the named bits of the matrix by the rules
+unfoldable pub resetWhere : Registry → (ℕ → ℕ → Bool) → Registry
+resetWhere r named = record {
+  model = r .model;
+  bits = record {
+    matrix = setWhere named (matrixBit (r .model)) (r .bits .matrix);
+    selected = r .bits .selected;
+    allowed = r .bits .allowed;
+  };
+}
+
+-- the pairs of one of s and one of t
+unfoldable pub pairs : (ℕ → Bool) → (ℕ → Bool) → ℕ → ℕ → Bool
+pairs s t a b = s a && t b
+
+-- a row with the bits of the mask made the rule's
+unfoldable pub masked : (ℕ → Bool) → (ℕ → Bool) → (ℕ → Bool) → ℕ → Bool
+masked mask rule old y = cond (mask y) (rule y) (old y)
+
+-- m′ is m but for row a, whose bits of the mask are made the rule's
+pub record RowReset (m m′ : List ℕ) (a : ℕ) (mask rule : ℕ → Bool) : Type 0 where
+  pub holds : (c : Contents) → Holds m c → Holds m′ (withRow c a (masked mask rule (c .bits a)))
+
+-- the containers that p selects
+unfoldable pub selection : Model → Policy → ℕ → Bool
+selection m p c = on (selects p) (at (m .containers) c)
+
+-- the bits of the matrix that a policy of direction d touches, which selects s, are by the rules
+pub record ResetsFor (m : List ℕ) (d : ℕ) (s : ℕ → Bool) (m′ : List ℕ) : Type 0 where
+  pub says : (p : Policy) → d ≡ directionNumber (p .direction) → s ≡ selection (modelIn m) p → m′ ≡ image (resetWhere (registryIn m) (touched (modelIn m) p))
