@@ -199,9 +199,11 @@ module _ (r : Registry) (q : ℕ) (x : Option Policy) (hq : q < 128) where
     where
       here : (i : ℕ) → i ≡ q → at (set (r .model .policies) q x) i ≡ x
       here i e = ap (at (set (r .model .policies) q x)) e ∙ at-here (r .model) q x (ok .policies) hq
+
       valid : (i : ℕ) → Dec (i ≡ q) → freeOr (λ p. validEntry (r .model .settings) (policy p)) (at (set (r .model .policies) q x) i) ≡ true
       valid i (yes e) = ap (freeOr (λ p. validEntry (r .model .settings) (policy p))) (here i e) ∙ v (r .model .settings)
       valid i (no n) = ap (freeOr (λ p. validEntry (r .model .settings) (policy p))) (at-other (r .model) q x i n) ∙ ok .policy i
+
       owned : (f : ℕ → ℕ → Bool) (t : ℕ → Bool) → Owned t
           → ((i c : ℕ) → f i c ≡ true → (stands (r .model .policies) i && stands (r .model .containers) c) ≡ true)
           → (i c : ℕ) → Dec (i ≡ q) → made q t f i c ≡ true → (stands (set (r .model .policies) q x) i && stands (r .model .containers) c) ≡ true
@@ -476,9 +478,9 @@ unfolding resetWhere settled placed changePolicy setWhere computedBits
 change-is r q p x =
     let m = withPolicy (r .model) q x in
     let f : (λ i. cond (eqb i q) (selectedBit m q) (r .bits .selected i)) ≡ setWhere (λ i b. eqb i q) (selectedBit m) (r .bits .selected)
-        = fun-ext (λ i. fun-ext (λ b. row (selectedBit m) (r .bits .selected) i b)) in
+    = fun-ext (λ i. fun-ext (λ b. row (selectedBit m) (r .bits .selected) i b)) in
     let g : (λ i. cond (eqb i q) (allowedBit m q) (r .bits .allowed i)) ≡ setWhere (λ i b. eqb i q) (allowedBit m) (r .bits .allowed)
-        = fun-ext (λ i. fun-ext (λ b. row (allowedBit m) (r .bits .allowed) i b)) in
+    = fun-ext (λ i. fun-ext (λ b. row (allowedBit m) (r .bits .allowed) i b)) in
     λ i. record { model = m; bits = record { matrix = setWhere (touched m p) (matrixBit m) (r .bits .matrix); selected = f i; allowed = g i } }
   where
     row : (u v : ℕ → ℕ → Bool) (i b : ℕ) → cond (eqb i q) (u q) (v i) b ≡ cond (eqb i q) (u i b) (v i b)

@@ -42,7 +42,19 @@ fn slot_words(direction: u64, select: block::Labels, allow: block::Labels) -> [u
     let a = allow.words;
     let m = 1 + select.count as u64;
     let n = 1 + allow.count as u64;
-    [direction, m, s[0], s[1], s[2], s[3], n, a[0], a[1], a[2], a[3]]
+    [
+        direction,
+        m,
+        s[0],
+        s[1],
+        s[2],
+        s[3],
+        n,
+        a[0],
+        a[1],
+        a[2],
+        a[3],
+    ]
 }
 
 // Slot q holds what these words say, and its two sets are by the entries.
@@ -98,7 +110,17 @@ fn reset_rows(memory: &mut [u64], rows: [u64; 4], columns: [u64; 4])
         let row = a;
         a += 1;
         if bitrow::has(rows, row) {
-            reset_row(memory, row, columns, out, back, chosen, &selected, &allowed, standing);
+            reset_row(
+                memory,
+                row,
+                columns,
+                out,
+                back,
+                chosen,
+                &selected,
+                &allowed,
+                standing,
+            );
         }
     }
 }

@@ -75,13 +75,13 @@ loop-again : tie.Need-loop-again Inv-loop μ-loop
 loop-again c =
     let l = c .before .before .before .before .before .before .before .before .before .loop in
     let f : Sources _ (c .before .before .before .before .before .before .before .before .before .before .before .before .before .before .before .before .before .before .before .before .containers-standing .result) (c .before .before .before .before .before .before .before .before .before .before .before .before .before .before .of-direction .result) (c .before .before .before .before .before .before .before .before .before .before .before .before .of-direction2 .result) (c .before .before .before .before .before .before .before .before .before .before .before .before .before .before .before .before .before .before .selected-sets .result) (c .before .before .before .before .before .before .before .before .before .before .before .before .before .before .before .before .allowed-sets .result)
-        = record {
-          stand = c .before .before .before .before .before .before .before .before .before .before .before .before .before .before .before .before .before .before .before .before .containers-standing .ensures;
-          forth = c .before .before .before .before .before .before .before .before .before .before .before .before .before .before .of-direction .ensures;
-          backwards = c .before .before .before .before .before .before .before .before .before .before .before .before .of-direction2 .ensures;
-          select = c .before .before .before .before .before .before .before .before .before .before .before .before .before .before .before .before .before .before .selected-sets .ensures;
-          allow = c .before .before .before .before .before .before .before .before .before .before .before .before .before .before .before .before .allowed-sets .ensures;
-        } in
+    = record {
+      stand = c .before .before .before .before .before .before .before .before .before .before .before .before .before .before .before .before .before .before .before .before .containers-standing .ensures;
+      forth = c .before .before .before .before .before .before .before .before .before .before .before .before .before .before .of-direction .ensures;
+      backwards = c .before .before .before .before .before .before .before .before .before .before .before .before .of-direction2 .ensures;
+      select = c .before .before .before .before .before .before .before .before .before .before .before .before .before .before .before .before .before .before .selected-sets .ensures;
+      allow = c .before .before .before .before .before .before .before .before .before .before .before .before .before .before .before .before .allowed-sets .ensures;
+    } in
     resets-take _ _ _ (l .inv) (c .before .before .before .before .before .before .before .before .loop-test .taken) (sym (c .before .before .before .before .before .before .before .has .ensures) ∙ c .before .before .before .before .before .before .if1 .taken) (c .before .before .reset-row .ensures)
     (rule-row _ _ _ _ f (l .a)) (λ k. omega (arith, c .slice-known2 .given k))
 

@@ -65,9 +65,11 @@ selected-row-requires c κs =
     let x = c .before .before .before .before .before .before .before .before .before .before .before .before .before .before .before .args in
     let p = c .before .before .before .before .before .before .before .before .before .before .before .before .before .before .before .pre in
     let w = p .2 .words in
-    let n : 11 ≤ length (x .words) = search needs in
-    (emptied-formed (x .memory .now) (p .0) (x .q) (p .1) w (c .before .before .before .before .before .before .before .before .before .before .before .before .before .none .result) (c .before .before .before .before .before .before .before .before .before .before .before .before .before .none .ensures) n (c .before .before .before .before .before .before .before .before .before .before .before .set-slot .ensures) (c .before .before .before .before .before .before .before .set-row .ensures) (c .before .before .before .set-row2 .ensures)
-    (λ k. omega (arith, c .before .slice-known4 .given k)), p .1)
+    let n : 11 ≤ length (x .words) = search needs in (
+      emptied-formed (x .memory .now) (p .0) (x .q) (p .1) w (c .before .before .before .before .before .before .before .before .before .before .before .before .before .none .result) (c .before .before .before .before .before .before .before .before .before .before .before .before .before .none .ensures) n (c .before .before .before .before .before .before .before .before .before .before .before .set-slot .ensures) (c .before .before .before .before .before .before .before .set-row .ensures) (c .before .before .before .set-row2 .ensures)
+          (λ k. omega (arith, c .before .slice-known4 .given k)),
+      p .1,
+    )
 
 -- src/policies.rt:58:9
 allowed-row-requires : tie.Need-allowed-row-requires
@@ -75,9 +77,11 @@ allowed-row-requires c κs =
     let x = c .before .before .before .before .before .before .before .before .before .before .before .before .before .before .before .before .before .args in
     let p = c .before .before .before .before .before .before .before .before .before .before .before .before .before .before .before .before .before .pre in
     let w = p .2 .words in
-    let n : 11 ≤ length (x .words) = search needs in
-    (emptied-formed (x .memory .now) (p .0) (x .q) (p .1) w (c .before .before .before .before .before .before .before .before .before .before .before .before .before .before .before .none .result) (c .before .before .before .before .before .before .before .before .before .before .before .before .before .before .before .none .ensures) n (c .before .before .before .before .before .before .before .before .before .before .before .before .before .set-slot .ensures) (c .before .before .before .before .before .before .before .before .before .set-row .ensures) (c .before .before .before .before .before .set-row2 .ensures)
-    (λ k. omega (arith, c .before .before .before .slice-known4 .given k)), p .1)
+    let n : 11 ≤ length (x .words) = search needs in (
+      emptied-formed (x .memory .now) (p .0) (x .q) (p .1) w (c .before .before .before .before .before .before .before .before .before .before .before .before .before .before .before .none .result) (c .before .before .before .before .before .before .before .before .before .before .before .before .before .before .before .none .ensures) n (c .before .before .before .before .before .before .before .before .before .before .before .before .before .set-slot .ensures) (c .before .before .before .before .before .before .before .before .before .set-row .ensures) (c .before .before .before .before .before .set-row2 .ensures)
+          (λ k. omega (arith, c .before .before .before .slice-known4 .given k)),
+      p .1,
+    )
 
 -- src/policies.rt:59:34
 mul-set-row-3 : tie.Need-mul-set-row-3

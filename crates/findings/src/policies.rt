@@ -1,0 +1,121 @@
+// The findings over policies: kinds 5 to 7.
+ghost use mathlib.Core.Path.{_≡_};
+ghost use mathlib.Core.Bool.{true};
+ghost use Prim.Native.Nat.{_<_, _≤_};
+ghost use Rattle.bitrow.specs.Bit.{bitAt};
+ghost use Rattle.bitrow.specs.Set.{meet, hasSome};
+ghost use Rattle.model.specs.Findings.{shadow, conflict};
+ghost use Rattle.formed.specs.Registry.{modelIn, bitsIn, wellFormed};
+ghost use Rattle.findings.specs.Rows.{shownAt, policiesOf, needless, AtPolicy, Compared};
+use bitrow::Found;
+
+// Whether a lies in b's shadow. Neither of a's sets is empty, so its connections lie among b's if its sets are parts of b's.
+fn shadow_at(memory: &[u64], a: usize, b: usize, who: [u64; 4], whom: [u64; 4]) -> bool
+    requires { ⌜ Compared (now memory) who whom a × AtPolicy (now memory) b ⌝ }
+    ensures { λ r. ⌜ r ≡ shadow (modelIn (now (memory .entry))) (bitsIn (now (memory .entry))) a b ⌝ }
+{
+    let one_way = memory[store::POLICIES + 11 * b] == memory[store::POLICIES + 11 * a];
+    let other_who = store::row_at(memory, 256 + 2 * b);
+    let other_whom = store::row_at(memory, 257 + 2 * b);
+    let under = bitrow::within(who, other_who) & bitrow::within(whom, other_whom);
+    let over = bitrow::within(other_who, who) & bitrow::within(other_whom, whom);
+    (a != b) & (one_way & (under & (!over | (b < a))))
+}
+
+// 5. Shadow: the policies in whose shadow a lies.
+fn shadows(memory: &[u64], policies: [u64; 4], a: usize, who: [u64; 4], whom: [u64; 4]) -> [u64; 4]
+    requires { ⌜ Compared (now memory) who whom a × (bitAt policies ≡ policiesOf (now memory)) ⌝ }
+    ensures { λ r. ⌜ bitAt r ≡ meet (bitAt policies) (shadow (modelIn (now (memory .entry))) (bitsIn (now (memory .entry))) a) ⌝ }
+{
+    let mut chosen = bitrow::none();
+    let mut from = 0;
+    loop {
+        let found = bitrow::next_from(policies, from);
+        let Found::At(b) = found else {
+            return chosen;
+        };
+        from = b + 1;
+        if shadow_at(memory, a, b, who, whom) {
+            let next = bitrow::with(chosen, b);
+            chosen = next;
+        }
+    }
+}
+
+// Whether a conflicts with b, above it. a allows something.
+fn conflict_at(memory: &[u64], a: usize, b: usize, who: [u64; 4], whom: [u64; 4]) -> bool
+    requires { ⌜ Compared (now memory) who whom a × AtPolicy (now memory) b ⌝ }
+    ensures { λ r. ⌜ r ≡ conflict (modelIn (now (memory .entry))) (bitsIn (now (memory .entry))) a b ⌝ }
+{
+    let one_way = memory[store::POLICIES + 11 * b] == memory[store::POLICIES + 11 * a];
+    let other_who = store::row_at(memory, 256 + 2 * b);
+    let other_whom = store::row_at(memory, 257 + 2 * b);
+    let apart = bitrow::is_empty(bitrow::both(who, other_who));
+    let idle = bitrow::is_empty(other_whom);
+    let disjoint = bitrow::is_empty(bitrow::both(whom, other_whom));
+    (a < b) & (one_way & (!apart & (!idle & disjoint)))
+}
+
+// 6. Conflict: the policies above a that it conflicts with.
+fn conflicts(
+    memory: &[u64],
+    policies: [u64; 4],
+    a: usize,
+    who: [u64; 4],
+    whom: [u64; 4],
+) -> [u64; 4]
+    requires { ⌜ Compared (now memory) who whom a × (bitAt policies ≡ policiesOf (now memory)) ⌝ }
+    ensures { λ r. ⌜ bitAt r ≡ meet (bitAt policies) (conflict (modelIn (now (memory .entry))) (bitsIn (now (memory .entry))) a) ⌝ }
+{
+    let mut chosen = bitrow::none();
+    let mut from = 0;
+    loop {
+        let found = bitrow::next_from(policies, from);
+        let Found::At(b) = found else {
+            return chosen;
+        };
+        from = b + 1;
+        if conflict_at(memory, a, b, who, whom) {
+            let next = bitrow::with(chosen, b);
+            chosen = next;
+        }
+    }
+}
+
+// 7. Irrelevance: 0 where nothing is selected, 1 where something is and nothing is allowed.
+fn irrelevance(who: [u64; 4], whom: [u64; 4]) -> [u64; 4]
+    ensures { λ r. ⌜ bitAt r ≡ needless (hasSome (bitAt who)) (hasSome (bitAt whom)) ⌝ }
+{
+    if bitrow::is_empty(who) {
+        return bitrow::with(bitrow::none(), 0);
+    }
+    if bitrow::is_empty(whom) {
+        return bitrow::with(bitrow::none(), 1);
+    }
+    bitrow::none()
+}
+
+// The findings of kind 5 to 7 at a, as the row of all b; above 7 there are none.
+pub fn row_of(memory: &[u64], policies: [u64; 4], kind: usize, a: usize) -> [u64; 4]
+    requires { ⌜ (wellFormed (now memory) ≡ true) × (bitAt policies ≡ policiesOf (now memory)) × (a < 256) × (5 ≤ kind) ⌝ }
+    ensures { λ r. ⌜ bitAt r ≡ shownAt (now (memory .entry)) kind a ⌝ }
+{
+    if !bitrow::has(policies, a) {
+        return bitrow::none();
+    }
+    let who = store::row_at(memory, 256 + 2 * a);
+    let whom = store::row_at(memory, 257 + 2 * a);
+    if kind == 7 {
+        return irrelevance(who, whom);
+    }
+    if bitrow::is_empty(who) | bitrow::is_empty(whom) {
+        return bitrow::none();
+    }
+    if kind == 5 {
+        return shadows(memory, policies, a, who, whom);
+    }
+    if kind == 6 {
+        return conflicts(memory, policies, a, who, whom);
+    }
+    bitrow::none()
+}
