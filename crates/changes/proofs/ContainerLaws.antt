@@ -42,41 +42,15 @@ use Rattle.reach.specs.Sets.{SetsOf, directionSet, opposite, lineBit}
 use Rattle.reach.proofs.Model.{line-sets, line-row, line-column}
 use Rattle.reach.proofs.Candidates.{policies-length}
 use Rattle.changes.specs.Labels.{unpacked}
+use Rattle.changes.proofs.LabelLaws.{padded-at, unpacked-back}
 use Rattle.changes.specs.OneContainer.{SaysContainer, slotWords, bitsSet, holdingSet, refreshed}
 
 -- ---- labels as a count and words
 
-padded-at : (n : ℕ) (ws : List ℕ) (j : ℕ) → j < n → getD (padded n ws) j 0 ≡ getD ws j 0
-padded-at zero ws j h = absurd (not-suc-le-zero h)
-padded-at (suc n) [] zero h = refl
-padded-at (suc n) [] (suc j) h = padded-at n [] j (le-of-suc-le-suc h)
-padded-at (suc n) (w ∷ ws) zero h = refl
-padded-at (suc n) (w ∷ ws) (suc j) h = padded-at n ws j (le-of-suc-le-suc h)
-
-padded-take : (n : ℕ) (ws : List ℕ) → length ws ≤ n → take (length ws) (padded n ws) ≡ ws
-padded-take n [] h = refl
-padded-take zero (w ∷ ws) h = absurd (not-suc-le-zero h)
-padded-take (suc n) (w ∷ ws) h = ap (λ (r : List ℕ). w ∷ r) (padded-take n ws (le-of-suc-le-suc h))
-
-words-back : (ls : List Label) → allInRange ls ≡ true → map labelIn (map word ls) ≡ ls
-unfolding labelWord
-words-back [] e = refl
-words-back (l ∷ ls) e =
-    let h = both (inRange l) (allInRange ls) e in
-    ap₂ (λ (x : Label) (xs : List Label). x ∷ xs) (label-back l (h .0)) (words-back ls (h .1))
-
 -- what a caller has of labels that the block reader hands over: they are those of a valid container x
 module _ (s : Settings) (x : Container) {l : Labels} (e : l ≡ packed x) (v : validEntry s (container x) ≡ true) where
-  packed-back : unpacked (packed x) ≡ x
-  unfolding unpacked packed
-  packed-back =
-      let ok = valid-container s x v in
-      let n = length-map x word in
-      ap (map labelIn) (ap (λ (k : ℕ). take k (padded 8 (map word x))) (sym n) ∙ padded-take 8 (map word x) (omega (arith, labels-few 8 x ok)))
-      ∙ words-back x (labels-in-range 8 x ok)
-
   pub unpacked-is : unpacked l ≡ x
-  unpacked-is = ap unpacked e ∙ packed-back
+  unpacked-is = ap unpacked e ∙ unpacked-back 8 x (omega arith) (valid-container s x v)
 
   pub says-container : SaysContainer s l
   says-container = record {

@@ -1,4 +1,5 @@
 -- The laws behind the proofs of `changes`.
+pub mod LabelLaws
 pub mod ContainerLaws
 pub mod PolicyLaws
 pub mod WholeLaws

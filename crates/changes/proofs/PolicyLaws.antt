@@ -12,28 +12,29 @@ use lib.ListN.{length, getD, set, take, replicate, length-set, getD-replicate}
 use lib.Seq.{getD-set-same, getD-set-other}
 use borrow.Author.Tests.{lt-ltb, le-ltb, eq-eqb, ne-eqb}
 use Rattle.bitrow.specs.Bit.{bitAt}
-use Rattle.bitrow.specs.Set.{nothing, meet, join, less}
+use Rattle.bitrow.specs.Set.{nothing, meet, join, less, hasSome}
 use Rattle.bitrow.proofs.Sets.{at as point}
+use Rattle.bitrow.proofs.Tests.{hasSome-absent}
 use Rattle.block.specs.declared.Labels.{Labels}
 use Rattle.block.specs.Entry.{Label, Container, Direction, ingress, egress, Policy, Settings, policy}
 use Rattle.block.specs.Reader.{directionOf}
 use Rattle.block.specs.Reading.{word, padded, packed}
 use Rattle.block.specs.Written.{directionNumber, inRange, allInRange, validLabels, validEntry}
-use Rattle.model.specs.Table.{Table, on, at, stands}
+use Rattle.model.specs.Table.{on, at, stands}
 use Rattle.model.specs.Rules.{sameDirection, selects, allows}
-use Rattle.model.specs.Model.{containerSlots, policySlots, Model, withPolicy, Bits, matrixBit, selectedBit, allowedBit, computedBits}
+use Rattle.model.specs.Model.{Model, withPolicy, Bits, matrixBit, selectedBit, allowedBit, computedBits}
 use Rattle.model.specs.Registry.{Registry, setWhere, touches, touched, changePolicy}
 use Rattle.store.specs.Layout.{policyStart, selectedRow, allowedRow, wordAt, rowAt}
 use Rattle.store.specs.Contents.{Contents, Holds}
 use Rattle.store.specs.Memory.{slotSet, rowSet, withSlot, withRow}
 use Rattle.store.proofs.Cases.{by-ltb, by-eqb}
-use Rattle.store.proofs.Carried.{SameContents, holds-as, holds-by, row-bit, slot-in, slot-out, holds-slot, row-in, row-out, row-words, holds-row}
+use Rattle.store.proofs.Carried.{SameContents, holds-as, holds-by, row-bit, slot-in, slot-out, holds-slot, holds-row}
 use Rattle.formed.specs.Words.{labelWord, partWord, settingsWord, containerWord, policyWord, labelIn, policyAt, policyIn}
 use Rattle.formed.specs.Registry.{modelIn, registryIn, entryWord, storedBit, contentsOf, image, freeOr, Acceptable, wellFormed}
 use Rattle.formed.proofs.Tests.{clash, both}
 use Rattle.formed.proofs.Parts.{label-back, labels-few, labels-in-range}
 use Rattle.formed.proofs.Slots.{valid-policy, direction-back, first-word}
-use Rattle.formed.proofs.Reading.{policy-slot, formed-policy}
+use Rattle.formed.proofs.Reading.{policy-slot, formed-policy, formed-fits}
 use Rattle.formed.proofs.Trials.{policy-at}
 use Rattle.formed.proofs.Back.{written, registry-image}
 use Rattle.formed.proofs.Formed.{formed-memory, formed-holds, acceptable-image}
@@ -42,7 +43,8 @@ use Rattle.reach.specs.Sets.{RowsAre, directionSet}
 use Rattle.reach.proofs.Model.{row-law}
 use Rattle.reach.proofs.Candidates.{policies-length}
 use Rattle.changes.specs.Labels.{unpacked}
-use Rattle.changes.specs.PolicyChange.{policyOf, PolicyWords, SlotWords, placed, settled, Settles, resetWhere, pairs, masked, RowReset, selection, ResetsFor}
+use Rattle.changes.proofs.LabelLaws.{padded-at, unpacked-back}
+use Rattle.changes.specs.PolicyChange.{policyOf, PolicyWords, SaysPolicy, SlotWords, Admissible, placed, settled, Settles, resetWhere, pairs, masked, RowReset, selection, ResetsFor}
 
 -- ---- stored bits, by their three tables
 
@@ -72,6 +74,16 @@ stored-allowed b q y =
     let e : (257 + 2 * q - 256) / 2 ≡ q = omega arith in
     rw (le-ltb (257 + 2 * q) 256 (omega arith), ne-eqb ((257 + 2 * q) % 2) 0 (λ z. omega arith), e)
 
+-- a row made s of a registry's memory is the change of its bits that makes the row s and leaves the others
+row-same : (r r′ : Registry) (k : ℕ) (s : ℕ → Bool) → r .model ≡ r′ .model → ((y : ℕ) → storedBit (r′ .bits) k y ≡ s y)
+    → ((x y : ℕ) → (x ≡ k → ⊥) → storedBit (r .bits) x y ≡ storedBit (r′ .bits) x y) → SameContents (withRow (contentsOf r) k s) (contentsOf r′)
+unfolding contentsOf withRow
+row-same r r′ k s same here others = record {
+  words = λ i l. ap (λ (m : Model). entryWord m i) same;
+  bits = λ x y hx hy. by-eqb (λ t. cond t s (storedBit (r .bits) x) y ≡ storedBit (r′ .bits) x y) x k
+      (λ e. sym (here y) ∙ ap (λ (j : ℕ). storedBit (r′ .bits) j y) (sym e)) (λ n. others x y n);
+}
+
 -- one row of a table made s
 abbrev made : ℕ → (ℕ → Bool) → (ℕ → ℕ → Bool) → ℕ → ℕ → Bool
 made q s f i = cond (eqb i q) s (f i)
@@ -85,8 +97,8 @@ made-other q s t f i y n = ap (λ u. cond u s (f i) y) (ne-eqb i q n) ∙ sym (a
 made-same : (q : ℕ) (f : ℕ → ℕ → Bool) (i y : ℕ) → f i y ≡ made q (f q) f i y
 made-same q f i y = by-eqb (λ t. f i y ≡ cond t (f q) (f i) y) i q (λ e. ap (λ j. f j y) e) (λ e. refl)
 
-point-word : {f g : ℕ → ℕ} → f ≡ g → (k : ℕ) → f k ≡ g k
-point-word e k = ap (λ h. h k) e
+point-row : {f g : ℕ → ℕ → Bool} → f ≡ g → (k : ℕ) → f k ≡ g k
+point-row e k = ap (λ h. h k) e
 
 -- ---- the slot
 
@@ -140,50 +152,29 @@ module _ (r : Registry) (q : ℕ) (x : Option Policy) (hq : q < 128) where
         })
 
   module _ {m : List ℕ} (s a : ℕ → Bool) (h : Holds m (contentsOf (placed r q x s a))) (row : List ℕ) where
-    abbrev old : Contents
-    old = contentsOf (placed r q x s a)
-
-    selected-row-bit : (i y : ℕ) → Dec (i ≡ selectedRow q) → (withRow old (selectedRow q) (bitAt row)) .bits i y ≡ storedBit (placed r q x (bitAt row) a .bits) i y
-    unfolding contentsOf placed
-    selected-row-bit i y (yes e) =
-        ap (λ k. (withRow old (selectedRow q) (bitAt row)) .bits k y) e ∙ point (row-in old (selectedRow q) (bitAt row)) y
-        ∙ sym (ap (λ k. storedBit (placed r q x (bitAt row) a .bits) k y) e ∙ stored-selected (placed r q x (bitAt row) a .bits) q y ∙ made-here q (bitAt row) (r .bits .selected) y)
-    selected-row-bit i y (no n) =
-        point (row-out old (selectedRow q) (bitAt row) i n) y
-        ∙ stored-cong (placed r q x s a .bits) (placed r q x (bitAt row) a .bits) i y (λ l. refl)
-        (λ l e. made-other q s (bitAt row) (r .bits .selected) ((i - 256) / 2) y (λ z. n (omega arith))) (λ l e. refl)
-
-    pub placed-selected : Holds (rowSet m (selectedRow q) row) (contentsOf (placed r q x (bitAt row) a))
-    unfolding contentsOf placed
+    placed-selected : Holds (rowSet m (selectedRow q) row) (contentsOf (placed r q x (bitAt row) a))
+    unfolding placed
     placed-selected =
-        holds-as (holds-row h (selectedRow q) row (omega arith)) _ (record {
-          words = λ k l. point-word (row-words old (selectedRow q) (bitAt row)) k;
-          bits = λ i y hi hy. selected-row-bit i y (ℕ-discrete i (selectedRow q));
-        })
+        let b = placed r q x s a .bits in
+        let b′ = placed r q x (bitAt row) a .bits in
+        holds-as (holds-row h (selectedRow q) row (omega arith)) _ (row-same (placed r q x s a) (placed r q x (bitAt row) a) (selectedRow q) (bitAt row) refl
+        (λ y. stored-selected b′ q y ∙ made-here q (bitAt row) (r .bits .selected) y)
+        (λ i y n. stored-cong b b′ i y (λ l. refl) (λ l e. made-other q s (bitAt row) (r .bits .selected) ((i - 256) / 2) y (λ z. n (omega arith))) (λ l e. refl)))
 
-    allowed-row-bit : (i y : ℕ) → Dec (i ≡ allowedRow q) → (withRow old (allowedRow q) (bitAt row)) .bits i y ≡ storedBit (placed r q x s (bitAt row) .bits) i y
-    unfolding contentsOf placed
-    allowed-row-bit i y (yes e) =
-        ap (λ k. (withRow old (allowedRow q) (bitAt row)) .bits k y) e ∙ point (row-in old (allowedRow q) (bitAt row)) y
-        ∙ sym (ap (λ k. storedBit (placed r q x s (bitAt row) .bits) k y) e ∙ stored-allowed (placed r q x s (bitAt row) .bits) q y ∙ made-here q (bitAt row) (r .bits .allowed) y)
-    allowed-row-bit i y (no n) =
-        point (row-out old (allowedRow q) (bitAt row) i n) y
-        ∙ stored-cong (placed r q x s a .bits) (placed r q x s (bitAt row) .bits) i y (λ l. refl) (λ l e. refl)
-        (λ l e. made-other q a (bitAt row) (r .bits .allowed) ((i - 256) / 2) y (λ z. n (omega arith)))
-
-    pub placed-allowed : Holds (rowSet m (allowedRow q) row) (contentsOf (placed r q x s (bitAt row)))
-    unfolding contentsOf placed
+    placed-allowed : Holds (rowSet m (allowedRow q) row) (contentsOf (placed r q x s (bitAt row)))
+    unfolding placed
     placed-allowed =
-        holds-as (holds-row h (allowedRow q) row (omega arith)) _ (record {
-          words = λ k l. point-word (row-words old (allowedRow q) (bitAt row)) k;
-          bits = λ i y hi hy. allowed-row-bit i y (ℕ-discrete i (allowedRow q));
-        })
+        let b = placed r q x s a .bits in
+        let b′ = placed r q x s (bitAt row) .bits in
+        holds-as (holds-row h (allowedRow q) row (omega arith)) _ (row-same (placed r q x s a) (placed r q x s (bitAt row)) (allowedRow q) (bitAt row) refl
+        (λ y. stored-allowed b′ q y ∙ made-here q (bitAt row) (r .bits .allowed) y)
+        (λ i y n. stored-cong b b′ i y (λ l. refl) (λ l e. refl) (λ l e. made-other q a (bitAt row) (r .bits .allowed) ((i - 256) / 2) y (λ z. n (omega arith)))))
 
   -- bits of a policy's set are of a slot that stands and of standing containers
   abbrev Owned : (ℕ → Bool) → Type 0
   Owned s = (c : ℕ) → s c ≡ true → (on (λ p. true) x && stands (r .model .containers) c) ≡ true
 
-  placed-acceptable : Acceptable r → ((t : Settings) → freeOr (λ p. validEntry t (policy p)) x ≡ true) → (s a : ℕ → Bool) → Owned s → Owned a
+  placed-acceptable : Acceptable r → Admissible (r .model .settings) x → (s a : ℕ → Bool) → Owned s → Owned a
       → Acceptable (placed r q x s a)
   unfolding placed withPolicy
   placed-acceptable ok v s a os oa = record {
@@ -201,7 +192,7 @@ module _ (r : Registry) (q : ℕ) (x : Option Policy) (hq : q < 128) where
       here i e = ap (at (set (r .model .policies) q x)) e ∙ at-here (r .model) q x (ok .policies) hq
 
       valid : (i : ℕ) → Dec (i ≡ q) → freeOr (λ p. validEntry (r .model .settings) (policy p)) (at (set (r .model .policies) q x) i) ≡ true
-      valid i (yes e) = ap (freeOr (λ p. validEntry (r .model .settings) (policy p))) (here i e) ∙ v (r .model .settings)
+      valid i (yes e) = ap (freeOr (λ p. validEntry (r .model .settings) (policy p))) (here i e) ∙ v
       valid i (no n) = ap (freeOr (λ p. validEntry (r .model .settings) (policy p))) (at-other (r .model) q x i n) ∙ ok .policy i
 
       owned : (f : ℕ → ℕ → Bool) (t : ℕ → Bool) → Owned t
@@ -251,7 +242,7 @@ model-in : (m : List ℕ) → registryIn m .model ≡ modelIn m
 unfolding registryIn
 model-in m = refl
 
-module _ (m : List ℕ) (ok : wellFormed m ≡ true) (q : ℕ) (hq : q < 128) {x : Option Policy} {ws : List ℕ} (w : SlotWords x ws) where
+module _ (m : List ℕ) (ok : wellFormed m ≡ true) (q : ℕ) (hq : q < 128) (x : Option Policy) (v : Admissible (modelIn m .settings) x) where
   fine : Acceptable (registryIn m)
   fine = formed-memory m ok .acceptable
 
@@ -260,17 +251,17 @@ module _ (m : List ℕ) (ok : wellFormed m ≡ true) (q : ℕ) (hq : q < 128) {x
   there = at-here (registryIn m .model) q x (fine .policies) hq
 
   pub settled-acceptable : Acceptable (settled (registryIn m) q x)
-  unfolding settled withPolicy
+  unfolding settled withPolicy registryIn
   settled-acceptable =
-      placed-acceptable (registryIn m) q x hq fine (w .valid) (selectedBit (withPolicy (registryIn m .model) q x) q) (allowedBit (withPolicy (registryIn m .model) q x) q)
+      placed-acceptable (registryIn m) q x hq fine v (selectedBit (withPolicy (registryIn m .model) q x) q) (allowedBit (withPolicy (registryIn m .model) q x) q)
       (selected-owned (withPolicy (registryIn m .model) q x) q x there) (allowed-owned (withPolicy (registryIn m .model) q x) q x there)
 
   -- the slot written, its sets cleared
   emptied-acceptable : Acceptable (placed (registryIn m) q x nothing nothing)
-  unfolding nothing
-  emptied-acceptable = placed-acceptable (registryIn m) q x hq fine (w .valid) nothing nothing (λ c b. clash b) (λ c b. clash b)
+  unfolding nothing registryIn
+  emptied-acceptable = placed-acceptable (registryIn m) q x hq fine v nothing nothing (λ c b. clash b) (λ c b. clash b)
 
-  module _ (nobody : List ℕ) {e1 e2 e3 : List ℕ} (clear : bitAt nobody ≡ nothing) (enough : 11 ≤ length ws)
+  module _ {ws : List ℕ} (w : SlotWords x ws) (nobody : List ℕ) {e1 e2 e3 : List ℕ} (clear : bitAt nobody ≡ nothing) (enough : 11 ≤ length ws)
       (f1 : e1 ≡ slotSet m (policyStart q) 11 ws) (f2 : e2 ≡ rowSet e1 (selectedRow q) nobody) (f3 : e3 ≡ rowSet e2 (allowedRow q) nobody) where
     emptied-holds : Holds e3 (contentsOf (placed (registryIn m) q x nothing nothing))
     emptied-holds =
@@ -343,18 +334,30 @@ pub record Resets (r : Registry) (s t : ℕ → Bool) (m : List ℕ) (n : ℕ) :
   pub held : Holds m (contentsOf (resetWhere r (below n s t)))
   pub fit : Fit m
 
-module _ (r : Registry) (s t : ℕ → Bool) where
+-- what is named is all that counts, and where nothing is named all stays
+module _ (r : Registry) where
   abbrev bit : Bool → ℕ → ℕ → Bool
   bit u x y = cond u (matrixBit (r .model) x y) (r .bits .matrix x y)
 
-  pub resets-none : {m : List ℕ} → Holds m (contentsOf r) → Fit m → Resets r s t m 0
+  named-same : (f g : ℕ → ℕ → Bool) → ((x y : ℕ) → x < 256 → f x y ≡ g x y) → SameContents (contentsOf (resetWhere r f)) (contentsOf (resetWhere r g))
   unfolding contentsOf resetWhere setWhere
+  named-same f g e = record {
+    words = λ k l. refl;
+    bits = λ x y a b. stored-cong _ _ x y (λ l. ap (λ (u : Bool). bit u x y) (e x y l)) (λ l z. refl) (λ l z. refl);
+  }
+
+  named-none : (f : ℕ → ℕ → Bool) → ((x y : ℕ) → x < 256 → y < 256 → f x y ≡ false) → SameContents (contentsOf r) (contentsOf (resetWhere r f))
+  unfolding contentsOf resetWhere setWhere
+  named-none f e = record {
+    words = λ k l. refl;
+    bits = λ x y a b. stored-cong _ _ x y (λ l. sym (ap (λ (u : Bool). bit u x y) (e x y l b))) (λ l z. refl) (λ l z. refl);
+  }
+
+module _ (r : Registry) (s t : ℕ → Bool) where
+  pub resets-none : {m : List ℕ} → Holds m (contentsOf r) → Fit m → Resets r s t m 0
   resets-none h fit = record {
     most = omega arith;
-    held = holds-as h _ (record {
-      words = λ k l. refl;
-      bits = λ x y a b. stored-cong _ _ x y (λ l. sym (ap (λ (u : Bool). bit (u && pairs s t x y) x y) (le-ltb x 0 (omega arith)))) (λ l e. refl) (λ l e. refl);
-    });
+    held = holds-as h _ (named-none r (below 0 s t) (λ x y a b. ap (λ (u : Bool). u && pairs s t x y) (le-ltb x 0 (omega arith))));
     fit = fit;
   }
 
@@ -366,13 +369,9 @@ module _ (r : Registry) (s t : ℕ → Bool) where
     below-skip f x y (no d) = ap (λ (u : Bool). u && (s x && t y)) (ltb-step x n d)
 
     pub resets-skip : s n ≡ false → Resets r s t m (n + 1)
-    unfolding contentsOf resetWhere setWhere
     resets-skip f = record {
       most = omega arith;
-      held = holds-as (g .held) _ (record {
-        words = λ k l. refl;
-        bits = λ x y a b. stored-cong _ _ x y (λ l. ap (λ (u : Bool). bit u x y) (below-skip f x y (ℕ-discrete x n))) (λ l e. refl) (λ l e. refl);
-      });
+      held = holds-as (g .held) _ (named-same r (below n s t) (below (n + 1) s t) (λ x y l. below-skip f x y (ℕ-discrete x n)));
       fit = g .fit;
     }
 
@@ -382,37 +381,25 @@ module _ (r : Registry) (s t : ℕ → Bool) where
     abbrev after : Registry
     after = resetWhere r (below (n + 1) s t)
 
-    take-bit : s n ≡ true → (x y : ℕ) → Dec (x ≡ n)
-        → (withRow (contentsOf before) n (masked t (matrixBit (r .model) n) (contentsOf before .bits n))) .bits x y ≡ storedBit (after .bits) x y
+    taken-here : s n ≡ true → (y : ℕ) → storedBit (after .bits) n y ≡ masked t (matrixBit (r .model) n) (contentsOf before .bits n) y
     unfolding contentsOf resetWhere setWhere masked pairs
-    take-bit f x y (yes e) =
-        ap (λ (k : ℕ). (withRow (contentsOf before) n (masked t (matrixBit (r .model) n) (contentsOf before .bits n))) .bits k y) e
-        ∙ point (row-in (contentsOf before) n (masked t (matrixBit (r .model) n) (contentsOf before .bits n))) y
-        ∙ ap (λ (o : Bool). cond (t y) (matrixBit (r .model) n y) o) (stored-matrix (before .bits) n y hn ∙ ap (λ (u : Bool). bit (u && (s n && t y)) n y) (le-ltb n n (omega arith)))
-        ∙ sym (ap (λ (k : ℕ). storedBit (after .bits) k y) e ∙ stored-matrix (after .bits) n y hn
-        ∙ ap₂ (λ (u v : Bool). bit (u && (v && t y)) n y) (lt-ltb n (n + 1) (omega arith)) f)
-    take-bit f x y (no d) =
-        point (row-out (contentsOf before) n (masked t (matrixBit (r .model) n) (contentsOf before .bits n)) x d) y
-        ∙ stored-cong (before .bits) (after .bits) x y (λ l. ap (λ (u : Bool). bit (u && (s x && t y)) x y) (ltb-step x n d)) (λ l e. refl) (λ l e. refl)
+    taken-here f y =
+        stored-matrix (after .bits) n y hn ∙ ap₂ (λ (u v : Bool). bit r (u && (v && t y)) n y) (lt-ltb n (n + 1) (omega arith)) f
+        ∙ sym (ap (λ (o : Bool). cond (t y) (matrixBit (r .model) n y) o) (stored-matrix (before .bits) n y hn ∙ ap (λ (u : Bool). bit r (u && (s n && t y)) n y) (le-ltb n n (omega arith))))
 
     pub resets-take : s n ≡ true → {m′ : List ℕ} {rule : ℕ → Bool} → RowReset m m′ n t rule → rule ≡ matrixBit (r .model) n → Fit m′ → Resets r s t m′ (n + 1)
-    unfolding contentsOf resetWhere
+    unfolding resetWhere setWhere
     resets-take f {m′} {rule} w e fit = record {
       most = omega arith;
-      held = holds-as (subst (RowReset m m′ n t) e w .holds (contentsOf before) (g .held)) (contentsOf after) (record {
-        words = λ k l. point-word (row-words (contentsOf before) n (masked t (matrixBit (r .model) n) (contentsOf before .bits n))) k;
-        bits = λ x y a b. take-bit f x y (ℕ-discrete x n);
-      });
+      held = holds-as (subst (RowReset m m′ n t) e w .holds (contentsOf before) (g .held)) (contentsOf after) (row-same before after n _ refl (taken-here f)
+          (λ x y d. stored-cong (before .bits) (after .bits) x y (λ l. ap (λ (u : Bool). bit r (u && pairs s t x y) x y) (ltb-step x n d)) (λ l z. refl) (λ l z. refl)));
       fit = fit;
     }
 
   pub resets-all : {m : List ℕ} {n : ℕ} → Resets r s t m n → 256 ≤ n → m ≡ image (resetWhere r (pairs s t))
-  unfolding contentsOf resetWhere setWhere
   resets-all {m} {n} g h =
-      written (resetWhere r (pairs s t)) m (holds-as (g .held) _ (record {
-        words = λ k l. refl;
-        bits = λ x y a b. stored-cong _ _ x y (λ l. ap (λ (u : Bool). bit (u && pairs s t x y) x y) (lt-ltb x n (omega arith))) (λ l e. refl) (λ l e. refl);
-      })) (g .fit)
+      written (resetWhere r (pairs s t)) m (holds-as (g .held) _ (named-same r (below n s t) (pairs s t)
+      (λ x y l. ap (λ (u : Bool). u && pairs s t x y) (lt-ltb x n (omega arith))))) (g .fit)
 
 -- ---- the rows by the rules of a memory's entries
 
@@ -471,6 +458,24 @@ module _ (m : List ℕ) {m′ : List ℕ} (d : ℕ) (s t : ℕ → Bool) (g : t 
         (ap₂ pairs g f ∙ touched-ingress (modelIn m) p (number-ingress (p .direction) (λ y. z (e ∙ y))));
   }
 
+-- a policy that selects nobody touches nothing
+module _ (m : List ℕ) (ok : wellFormed m ≡ true) (p : Policy) (none-selected : hasSome (selection (modelIn m) p) ≡ false) where
+  untouched : (d : Direction) → p .direction ≡ d → (a b : ℕ) → a < 256 → b < 256 → touched (modelIn m) p a b ≡ false
+  unfolding pairs
+  untouched egress e a b ha hb =
+      sym (point (point-row (touched-egress (modelIn m) p e) a) b) ∙ ap (λ (u : Bool). u && stands (modelIn m .containers) b) (hasSome-absent (selection (modelIn m) p) none-selected a ha)
+  untouched ingress e a b ha hb =
+      sym (point (point-row (touched-ingress (modelIn m) p e) a) b)
+      ∙ ap (λ (u : Bool). stands (modelIn m .containers) a && u) (hasSome-absent (selection (modelIn m) p) none-selected b hb) ∙ and-false (stands (modelIn m .containers) a)
+
+  reset-same : m ≡ image (resetWhere (registryIn m) (touched (modelIn m) p))
+  reset-same =
+      written (resetWhere (registryIn m) (touched (modelIn m) p)) m
+      (holds-as (formed-holds m ok) _ (named-none (registryIn m) (touched (modelIn m) p) (untouched (p .direction) refl))) (formed-fits m ok)
+
+pub resets-nobody : (m : List ℕ) → wellFormed m ≡ true → (d : ℕ) (s : ℕ → Bool) → hasSome s ≡ false → ResetsFor m d s m
+resets-nobody m ok d s h = record { says = λ p e f. reset-same m ok p (ap hasSome (sym f) ∙ h) }
+
 -- ---- the whole change
 
 change-is : (r : Registry) (q : ℕ) (p : Policy) (x : Option Policy) → resetWhere (settled r q x) (touched (settled r q x .model) p) ≡ changePolicy r q p x
@@ -494,12 +499,12 @@ selection-with : (m : Model) (q : ℕ) (x : Option Policy) (p : Policy) → sele
 unfolding selection withPolicy
 selection-with m q x p = refl
 
-module _ (m : List ℕ) (ok : wellFormed m ≡ true) (q : ℕ) (hq : q < 128) {x : Option Policy} {ws : List ℕ} (w : SlotWords x ws) {m′ : List ℕ} (f : Settles m q ws m′) where
+module _ (m : List ℕ) (ok : wellFormed m ≡ true) (q : ℕ) (hq : q < 128) (x : Option Policy) (v : Admissible (modelIn m .settings) x) {ws : List ℕ} (w : SlotWords x ws) {m′ : List ℕ} (f : Settles m q ws m′) where
   settled-says : registryIn m′ ≡ settled (registryIn m) q x
-  settled-says = image-says (settled-acceptable m ok q hq w) (f .says x w)
+  settled-says = image-says (settled-acceptable m ok q hq x v) (f .says x w v)
 
   pub settled-formed : wellFormed m′ ≡ true
-  settled-formed = image-formed (settled-acceptable m ok q hq w) (f .says x w)
+  settled-formed = image-formed (settled-acceptable m ok q hq x v) (f .says x w v)
 
   pub settled-model : modelIn m′ ≡ withPolicy (modelIn m) q x
   unfolding settled placed registryIn
@@ -516,10 +521,10 @@ module _ (m : List ℕ) (ok : wellFormed m ≡ true) (q : ℕ) (hq : q < 128) {x
       g .says p ed es ∙ ap (λ (z : Registry). image (resetWhere z (touched (z .model) p))) settled-says ∙ ap image (change-is (registryIn m) q p x)
 
 -- the policy comes
-module _ (m : List ℕ) (ok : wellFormed m ≡ true) (q : ℕ) (hq : q < 128) {p : Policy} {ws : List ℕ} (w : SlotWords (some p) ws) {m′ : List ℕ} (f : Settles m q ws m′) where
+module _ (m : List ℕ) (ok : wellFormed m ≡ true) (q : ℕ) (hq : q < 128) {p : Policy} (v : validEntry (modelIn m .settings) (policy p) ≡ true) {ws : List ℕ} (w : SlotWords (some p) ws) {m′ : List ℕ} (f : Settles m q ws m′) where
   pub put-done : {e : List ℕ} (d : ℕ) (s : ℕ → Bool) → ResetsFor m′ d s e → d ≡ directionNumber (p .direction) → s ≡ selectedBit (modelIn m′) q
       → e ≡ image (changePolicy (registryIn m) q p (some p))
-  put-done d s g ed es = policy-done m ok q hq w f d s p g ed (es ∙ selected-selection (modelIn m′) q p (settled-at m ok q hq w f))
+  put-done d s g ed es = policy-done m ok q hq (some p) v w f d s p g ed (es ∙ selected-selection (modelIn m′) q p (settled-at m ok q hq (some p) v w f))
 
 -- the policy goes
 module _ (m : List ℕ) (ok : wellFormed m ≡ true) (q : ℕ) (hq : q < 128) (st : stands (modelIn m .policies) q ≡ true) where
@@ -531,23 +536,11 @@ module _ (m : List ℕ) (ok : wellFormed m ≡ true) (q : ℕ) (hq : q < 128) (s
   pub take-done : {ws m′ e : List ℕ} → SlotWords none ws → Settles m q ws m′ → (s : ℕ → Bool) → ResetsFor m′ (wordAt m (policyStart q)) s e → s ≡ selectedBit (modelIn m) q
       → e ≡ image (changePolicy (registryIn m) q (policyAt m q) none)
   take-done {ws} {m′} {e} w f s g es =
-      policy-done m ok q hq w f (wordAt m (policyStart q)) s (policyAt m q) g direction-at
+      policy-done m ok q hq none refl w f (wordAt m (policyStart q)) s (policyAt m q) g direction-at
       (es ∙ selected-selection (modelIn m) q (policyAt m q) (policy-at m q st) ∙ selection-with (modelIn m) q none (policyAt m q)
-      ∙ ap (λ (z : Model). selection z (policyAt m q)) (sym (settled-model m ok q hq w f)))
+      ∙ ap (λ (z : Model). selection z (policyAt m q)) (sym (settled-model m ok q hq none refl w f)))
 
 -- ---- words
-
-padded-at : (n : ℕ) (ws : List ℕ) (j : ℕ) → j < n → getD (padded n ws) j 0 ≡ getD ws j 0
-padded-at zero ws j h = absurd (omega arith)
-padded-at (suc n) [] zero h = refl
-padded-at (suc n) [] (suc j) h = padded-at n [] j (omega arith)
-padded-at (suc n) (w ∷ ws) zero h = refl
-padded-at (suc n) (w ∷ ws) (suc j) h = padded-at n ws j (omega arith)
-
-take-padded : (n : ℕ) (ws : List ℕ) → length ws ≤ n → take (length ws) (padded n ws) ≡ ws
-take-padded n [] h = refl
-take-padded zero (w ∷ ws) h = absurd (omega arith)
-take-padded (suc n) (w ∷ ws) h = ap (λ (l : List ℕ). w ∷ l) (take-padded n ws (omega arith))
 
 module _ (ls : List Label) (l : Labels) (e : l ≡ packed ls) where
   head-word : 1 + l .count ≡ partWord ls 0
@@ -558,36 +551,25 @@ module _ (ls : List Label) (l : Labels) (e : l ≡ packed ls) where
   unfolding packed partWord labelWord
   label-words j h = rw e (padded-at 8 (map word ls) j h)
 
-words-back : (ls : List Label) → allInRange ls ≡ true → map labelIn (map word ls) ≡ ls
-unfolding labelWord
-words-back [] v = refl
-words-back (l ∷ ls) v = let h = both (inRange l) (allInRange ls) v in ap₂ (λ (x : Label) (xs : List Label). x ∷ xs) (label-back l (h .0)) (words-back ls (h .1))
-
-length-words : (ls : List Label) → length (map word ls) ≡ length ls
-length-words [] = refl
-length-words (l ∷ ls) = ap suc (length-words ls)
-
--- labels are unpacked as they were packed
-pub unpacked-back : (limit : ℕ) (ls : List Label) → limit ≤ 8 → validLabels limit ls ≡ true → unpacked (packed ls) ≡ ls
-unfolding unpacked packed
-unpacked-back limit ls h v =
-    let n = length-words ls in
-    ap (λ (k : ℕ). map labelIn (take k (padded 8 (map word ls)))) (sym n)
-    ∙ ap (map labelIn) (take-padded 8 (map word ls) (omega (arith, labels-few limit ls v))) ∙ words-back ls (labels-in-range limit ls v)
+count-packed : (ls : List Label) → packed ls .count ≡ length ls
+unfolding packed
+count-packed ls = refl
 
 -- the policy that its words say
-pub policy-given : {p : Policy} {d : ℕ} {s a : Labels} → PolicyWords p d s a → policyOf d s a ≡ p
+pub policy-given : {p : Policy} {d : ℕ} {s a : Labels} → PolicyWords p d s a → (t : Settings) → validEntry t (policy p) ≡ true → policyOf d s a ≡ p
 unfolding policyOf
-policy-given {p} {d} {s} {a} w =
-    let v = valid-policy (record { userKey = 0; systemKey = 0; systemValue = 0 }) p (w .valid (record { userKey = 0; systemKey = 0; systemValue = 0 })) in
+policy-given {p} {d} {s} {a} w t valid =
+    let v = valid-policy t p valid in
     let e : directionOf d ≡ p .direction = ap directionOf (w .direction) ∙ direction-back (p .direction) in
     let f : unpacked s ≡ p .select = ap unpacked (w .select) ∙ unpacked-back 4 (p .select) (omega arith) (v .select) in
     let g : unpacked a ≡ p .allow = ap unpacked (w .allow) ∙ unpacked-back 4 (p .allow) (omega arith) (v .allow) in
     λ i. record { direction = e i; select = f i; allow = g i }
 
--- so they are the words of `policyOf`, as `put_policy` asks
-pub words-given : {p : Policy} {d : ℕ} {s a : Labels} → PolicyWords p d s a → PolicyWords (policyOf d s a) d s a
-words-given {p} {d} {s} {a} w = subst (λ (z : Policy). PolicyWords z d s a) (sym (policy-given w)) w
+-- what `put_policy` asks of them
+pub says-given : {p : Policy} {d : ℕ} {s a : Labels} → PolicyWords p d s a → (t : Settings) → validEntry t (policy p) ≡ true → SaysPolicy t d s a
+says-given {p} {d} {s} {a} w t valid =
+    let e = sym (policy-given w t valid) in
+    record { words = subst (λ (z : Policy). PolicyWords z d s a) e w; valid = subst (λ (z : Policy). validEntry t (policy z) ≡ true) e valid }
 
 abbrev words : ℕ → Labels → Labels → List ℕ
 words d s a =
@@ -595,7 +577,7 @@ words d s a =
     ∷ (1 + a .count) ∷ getD (a .words) 0 0 ∷ getD (a .words) 1 0 ∷ getD (a .words) 2 0 ∷ getD (a .words) 3 0 ∷ []
 
 pub slot-words : {p : Policy} {d : ℕ} {s a : Labels} → PolicyWords p d s a → SlotWords (some p) (words d s a)
-slot-words {p} {d} {s} {a} w = record { valid = w .valid; word = word-at }
+slot-words {p} {d} {s} {a} w = record { word = word-at }
   where
     word-at : (k : ℕ) → k < 11 → getD (words d s a) k 0 ≡ policyWord (some p) k
     word-at zero h = w .direction
@@ -611,15 +593,16 @@ slot-words {p} {d} {s} {a} w = record { valid = w .valid; word = word-at }
     word-at (suc (suc (suc (suc (suc (suc (suc (suc (suc (suc zero)))))))))) h = label-words (p .allow) a (w .allow) 3 (omega arith)
     word-at (suc (suc (suc (suc (suc (suc (suc (suc (suc (suc (suc k))))))))))) h = absurd (omega arith)
 
--- the counts are small
-pub counts-small : {p : Policy} {d : ℕ} {s a : Labels} → PolicyWords p d s a → (s .count ≤ 4) × (a .count ≤ 4)
-unfolding packed
-counts-small {p} {d} {s} {a} w =
-    let v = valid-policy (record { userKey = 0; systemKey = 0; systemValue = 0 }) p (w .valid (record { userKey = 0; systemKey = 0; systemValue = 0 })) in (
-      rw (w .select) (labels-few 4 (p .select) (v .select)),
-      rw (w .allow) (labels-few 4 (p .allow) (v .allow)),
-    )
+-- so their counts are small
+pub counts-small : {t : Settings} {d : ℕ} {s a : Labels} → SaysPolicy t d s a → (s .count ≤ 4) × (a .count ≤ 4)
+counts-small {t} {d} {s} {a} g =
+    let p = policyOf d s a in
+    let v = valid-policy t p (g .valid) in
+    (few (p .select) s (g .words .select) (v .select), few (p .allow) a (g .words .allow) (v .allow))
+  where
+    few : (ls : List Label) (l : Labels) → l ≡ packed ls → validLabels 4 ls ≡ true → l .count ≤ 4
+    few ls l e v = omega (arith, ap (λ (z : Labels). z .count) e ∙ count-packed ls, labels-few 4 ls v)
 
 -- no policy
 pub no-words : SlotWords none (replicate 11 0)
-no-words = record { valid = λ t. refl; word = λ k h. getD-replicate 11 k 0 0 h }
+no-words = record { word = λ k h. getD-replicate 11 k 0 0 h }

@@ -10,7 +10,7 @@ use Rattle.block.specs.declared.Labels.{Labels}
 use Rattle.block.specs.Entry.{Policy, Settings, policy}
 use Rattle.block.specs.Reader.{directionOf}
 use Rattle.block.specs.Reading.{packed}
-use Rattle.block.specs.Written.{directionNumber, validLabels, validEntry}
+use Rattle.block.specs.Written.{directionNumber, validEntry}
 use Rattle.model.specs.Table.{on, at}
 use Rattle.model.specs.Rules.{selects}
 use Rattle.model.specs.Model.{withPolicy, Model, matrixBit, selectedBit, allowedBit}
@@ -32,17 +32,25 @@ pub record PolicyWords (p : Policy) (d : ℕ) (s a : Labels) : Type 0 where
   pub direction : d ≡ directionNumber (p .direction)
   pub select : s ≡ packed (p .select)
   pub allow : a ≡ packed (p .allow)
-  pub valid : (t : Settings) → validEntry t (policy p) ≡ true
 
--- the words of a slot that holds x, a policy that may stand or none
+-- they say a policy that admit accepts under the settings t
+pub record SaysPolicy (t : Settings) (d : ℕ) (s a : Labels) : Type 0 where
+  pub words : PolicyWords (policyOf d s a) d s a
+  pub valid : validEntry t (policy (policyOf d s a)) ≡ true
+
+-- the words of a slot that holds x, a policy or none
 pub record SlotWords (x : Option Policy) (ws : List ℕ) : Type 0 where
-  pub valid : (t : Settings) → freeOr (λ p. validEntry t (policy p)) x ≡ true
   pub word : (k : ℕ) → k < 11 → getD ws k 0 ≡ policyWord x k
 
--- the words of a slot
-pub record SomeSlot (ws : List ℕ) : Type 0 where
+-- none, or a policy that admit would accept under the settings t
+abbrev pub Admissible : Settings → Option Policy → Type 0
+Admissible t x = freeOr (λ p. validEntry t (policy p)) x ≡ true
+
+-- the words of a slot that may stand under the settings t
+pub record SomeSlot (t : Settings) (ws : List ℕ) : Type 0 where
   pub entry : Option Policy
   pub words : SlotWords entry ws
+  pub valid : Admissible t entry
 
 -- ---- the change, step by step
 
@@ -62,7 +70,7 @@ unfoldable pub settled : Registry → ℕ → Option Policy → Registry
 settled r q x = let m = withPolicy (r .model) q x in placed r q x (selectedBit m q) (allowedBit m q)
 
 pub record Settles (m : List ℕ) (q : ℕ) (ws m′ : List ℕ) : Type 0 where
-  pub says : (x : Option Policy) → SlotWords x ws → m′ ≡ image (settled (registryIn m) q x)
+  pub says : (x : Option Policy) → SlotWords x ws → Admissible (modelIn m .settings) x → m′ ≡ image (settled (registryIn m) q x)
 
 -- the named bits of the matrix by the rules
 unfoldable pub resetWhere : Registry → (ℕ → ℕ → Bool) → Registry

@@ -2,10 +2,8 @@
 ghost use mathlib.Core.Path.{_≡_};
 ghost use mathlib.Core.Bool.{true};
 ghost use mathlib.Core.Option.{none, some};
-ghost use Prim.Native.Nat.{_<_};
-ghost use lib.ListN.{length};
+ghost use Prim.Native.Nat.{_<_, _≤_};
 ghost use Rattle.bitrow.specs.Bit.{bitAt};
-ghost use Rattle.block.specs.Entry.{Policy};
 ghost use Rattle.model.specs.Table.{stands};
 ghost use Rattle.model.specs.Model.{selectedBit, allowedBit};
 ghost use Rattle.model.specs.Registry.{changePolicy};
@@ -13,7 +11,7 @@ ghost use Rattle.store.specs.Layout.{Whole};
 ghost use Rattle.formed.specs.Words.{policyAt};
 ghost use Rattle.formed.specs.Registry.{modelIn, registryIn, image, wellFormed};
 ghost use Rattle.reach.specs.Lets.{bits, union, line};
-ghost use Rattle.changes.specs.PolicyChange.{policyOf, PolicyWords, SlotWords, SomeSlot, Settles, RowReset, pairs, resetWhere, ResetsFor};
+ghost use Rattle.changes.specs.PolicyChange.{policyOf, PolicyWords, SaysPolicy, SlotWords, SomeSlot, Settles, RowReset, pairs, resetWhere, ResetsFor};
 
 // What policy q selects.
 fn selected_row(memory: &[u64], q: usize) -> [u64; 4]
@@ -35,7 +33,7 @@ fn allowed_row(memory: &[u64], q: usize) -> [u64; 4]
 
 // The words of a policy's slot.
 fn slot_words(direction: u64, select: block::Labels, allow: block::Labels) -> [u64; 11]
-    requires { ⌜ PolicyWords (policyOf direction select allow) direction select allow ⌝ }
+    requires { ⌜ PolicyWords (policyOf direction select allow) direction select allow × (select .count ≤ 4) × (allow .count ≤ 4) ⌝ }
     ensures { λ r. ⌜ SlotWords (some (policyOf direction select allow)) r ⌝ }
 {
     let s = select.words;
@@ -59,7 +57,7 @@ fn slot_words(direction: u64, select: block::Labels, allow: block::Labels) -> [u
 
 // Slot q holds what these words say, and its two sets are by the entries.
 fn settle(memory: &mut [u64], q: usize, words: [u64; 11])
-    requires { ⌜ (wellFormed (now memory) ≡ true) × (q < 128) × SomeSlot words ⌝ }
+    requires { ⌜ (wellFormed (now memory) ≡ true) × (q < 128) × SomeSlot (modelIn (now memory) .settings) words ⌝ }
     ensures { λ u. ⌜ Settles (now (memory .entry)) q words (now (memory .exit)) ⌝ }
 {
     let nobody = bitrow::none();
@@ -130,6 +128,9 @@ fn reset(memory: &mut [u64], direction: u64, selected: [u64; 4])
     requires { ⌜ wellFormed (now memory) ≡ true ⌝ }
     ensures { λ u. ⌜ ResetsFor (now (memory .entry)) direction (bitAt selected) (now (memory .exit)) ⌝ }
 {
+    if bitrow::is_empty(selected) {
+        return;
+    }
     let standing = formed::containers_standing(memory);
     if direction == 2 {
         reset_rows(memory, selected, standing);
@@ -138,7 +139,7 @@ fn reset(memory: &mut [u64], direction: u64, selected: [u64; 4])
     reset_rows(memory, standing, selected);
 }
 
-// A policy comes to slot q.
+// A policy comes to slot q: this direction, 1 ingress, 2 egress, and these parts.
 pub fn put_policy(
     memory: &mut [u64],
     q: usize,
@@ -146,7 +147,7 @@ pub fn put_policy(
     select: block::Labels,
     allow: block::Labels,
 )
-    requires { ⌜ (wellFormed (now memory) ≡ true) × (q < 128) × PolicyWords (policyOf direction select allow) direction select allow ⌝ }
+    requires { ⌜ (wellFormed (now memory) ≡ true) × (q < 128) × SaysPolicy (modelIn (now memory) .settings) direction select allow ⌝ }
     ensures { λ u. ⌜ now (memory .exit) ≡ image (changePolicy (registryIn (now (memory .entry))) q (policyOf direction select allow) (some (policyOf direction select allow))) ⌝ }
 {
     let words = slot_words(direction, select, allow);

@@ -1,5 +1,5 @@
 -- `changes::policies::allowed_row` meets its contract. Assumes nothing.
-use mathlib.Core.Path.{_≡_, ap, _∙_}
+use mathlib.Core.Path.{ap, _∙_}
 use Rattle.formed.proofs.Reading.{formed-whole}
 use Rattle.reach.specs.Sets.{partSet}
 use Rattle.reach.proofs.Candidates.{allows-within, allowed-set}

@@ -1,57 +1,42 @@
 -- `changes::policies::reset` meets its contract. Assumes nothing.
+use mathlib.Core.Path.{sym, _∙_}
 use borrow.Author.Needs.{needs}
+use borrow.Author.Tests.{not-true}
 use Rattle.bitrow.specs.Bit.{bitAt}
 use Rattle.formed.proofs.Reading.{formed-whole}
-use Rattle.changes.proofs.PolicyLaws.{resets-egress, resets-ingress}
+use Rattle.changes.proofs.PolicyLaws.{resets-nobody, resets-egress, resets-ingress}
 use Rattle.changes.proofs.policies.reset.Statement.{statement}
 use Rattle.changes.proofs.policies.reset.Tie as tie
-use Rattle.changes.proofs.policies.reset.Reads as reads
-use Rattle.changes.proofs.policies.reset.Lts as lts
-use Rattle.changes.proofs.policies.reset_rows.Reads as reset-rows-reads
-use Rattle.formed.proofs.containers_standing.Reads as containers-standing-reads
 
--- src/policies.rt:111:9
-containers-standing-requires : tie.Need-containers-standing-requires
-containers-standing-requires c κs = formed-whole _ (c .before .before .pre)
-
--- src/policies.rt:113:9
-reset-rows-requires : tie.Need-reset-rows-requires
-reset-rows-requires c κs = search needs
-
--- src/policies.rt:114:9
-same-length : tie.Need-same-length
-same-length c = search needs
-
--- src/policies.rt:114:9
 returns : tie.Need-returns
 returns c =
-    let x = c .before .before .before .before .before .before .before .before .args in
-    let s = c .before .before .before .before .before .containers-standing in
-    resets-egress (x .memory .now) (x .direction) (bitAt (x .selected)) (bitAt (s .result)) (s .ensures) (c .before .before .before .before .if1 .taken) (c .before .before .reset-rows .ensures)
+    resets-nobody _ (c .before .before .before .pre) _ _ (not-true _ (sym (c .before .is-empty .ensures) ∙ c .if1 .taken))
 
--- src/policies.rt:116:5
-reset-rows-requires-2 : tie.Need-reset-rows-requires-2
-reset-rows-requires-2 c κs = search needs
+containers-standing-requires : tie.Need-containers-standing-requires
+containers-standing-requires c κs = formed-whole _ (c .before .before .before .before .pre)
 
--- src/policies.rt:107:1
-same-length-2 : tie.Need-same-length-2
-same-length-2 c = search needs
-
--- src/policies.rt:107:1
 returns-2 : tie.Need-returns-2
 returns-2 c =
-    let x = c .before .before .before .before .before .before .before .before .args in
+    let x = c .before .before .before .before .before .before .before .before .before .before .args in
     let s = c .before .before .before .before .before .containers-standing in
-    resets-ingress (x .memory .now) (x .direction) (bitAt (x .selected)) (bitAt (s .result)) (s .ensures) (c .before .before .before .before .if1 .left) (c .before .before .reset-rows2 .ensures)
+    resets-egress (x .memory .now) (x .direction) (bitAt (x .selected)) (bitAt (s .result)) (s .ensures) (c .before .before .before .before .if2 .taken) (c .before .before .reset-rows .ensures)
+
+returns-3 : tie.Need-returns-3
+returns-3 c =
+    let x = c .before .before .before .before .before .before .before .before .before .before .args in
+    let s = c .before .before .before .before .before .containers-standing in
+    resets-ingress (x .memory .now) (x .direction) (bitAt (x .selected)) (bitAt (s .result)) (s .ensures) (c .before .before .before .before .if2 .left) (c .before .before .reset-rows2 .ensures)
 
 pub reset-spec : {M : Type 1} → statement M
 reset-spec =
     tie.close
     (tie.spec
-    containers-standing-requires
-    reset-rows-requires
-    same-length
+    (λ c κs. search needs)
     returns
-    reset-rows-requires-2
-    same-length-2
-    returns-2)
+    containers-standing-requires
+    (λ c κs. search needs)
+    (λ c. search needs)
+    returns-2
+    (λ c κs. search needs)
+    (λ c. search needs)
+    returns-3)
