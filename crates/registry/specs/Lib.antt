@@ -1,0 +1,4 @@
+-- What the contracts of `registry` cite.
+pub mod Answers
+pub mod Tests
+pub mod Admission
