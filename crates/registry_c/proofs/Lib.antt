@@ -1,0 +1,2 @@
+-- The laws behind the proofs of `registry_c`.
+pub mod CodeLaws

@@ -1,0 +1,26 @@
+use borrow.Author.Needs.{needs}
+use mathlib.Core.Path.{sym, ap, _∙_}
+use Rattle.registry.specs.Answers.{removedAnswer}
+use Rattle.registry_c.specs.Codes.{codeOf}
+use Rattle.registry_c.proofs.CodeLaws.{coded}
+use Rattle.registry_c.proofs.bihokura_remove_policy.Statement.{statement}
+use Rattle.registry_c.proofs.bihokura_remove_policy.Tie as tie
+
+returns : tie.Need-returns
+returns c = let d = c .before .before .before .before .before .before in coded _ _ _ _ (removedAnswer (d .remove-policy .result)) (d .remove-policy .ensures) (c .refused .ensures ∙ ap (λ o. codeOf (removedAnswer o)) (sym (c .before .before .answer .given .1)))
+
+returns-2 : tie.Need-returns-2
+returns-2 c = let d = c .before .before .before .before in coded _ _ _ _ (removedAnswer (d .remove-policy .result)) (d .remove-policy .ensures) (ap (λ o. codeOf (removedAnswer o)) (sym (c .enum-told .given .1)))
+
+pub bihokura-remove-policy-spec : {M : Type 1} → statement M
+bihokura-remove-policy-spec =
+    tie.close
+    (tie.spec
+    (λ c κs. search needs)
+    (λ c. search needs)
+    (λ c κs. search needs)
+    (λ c. search needs)
+    (λ c. search needs)
+    returns
+    (λ c. search needs)
+    returns-2)

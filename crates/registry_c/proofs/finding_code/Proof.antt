@@ -1,0 +1,21 @@
+use borrow.Author.Needs.{needs}
+use Rattle.registry_c.specs.Codes.{findingCode}
+use Rattle.registry_c.proofs.finding_code.Statement.{statement}
+use Rattle.registry_c.proofs.finding_code.Tie as tie
+
+returns : tie.Need-returns
+unfolding findingCode
+returns c = search needs
+
+pub finding-code-spec : {M : Type 1} → statement M
+finding-code-spec =
+    tie.close
+    (tie.spec
+    (λ c. search needs)
+    (λ c. search needs)
+    (λ c. search needs)
+    (λ c. search needs)
+    (λ c. search needs)
+    (λ c. search needs)
+    (λ c. search needs)
+    returns)

@@ -1,0 +1,2 @@
+-- What the contracts of `registry_c` cite.
+pub mod Codes

@@ -1,0 +1,190 @@
+// The calls for C, Rust and others: numbers and slices only. An answer is one number: the refusal's number in the top byte, 0 where
+// the call was accepted, and below it the slot, 0 or 1, the finding, or the counts.
+ghost use mathlib.Core.Path.{_≡_};
+ghost use Prim.Native.Nat.{_≤_};
+ghost use Rattle.model.specs.Calls.{openWith, admit, removeContainer, removePolicy, askReaches, askUser, nextFinding, counts, rebuild, audit, refusalNumber};
+ghost use Rattle.store.specs.Layout.{memoryWords};
+ghost use Rattle.registry_c.specs.Codes.{refusalCode, findingCode, truthCode, codedStep};
+use findings::Cursor;
+use model::ContainerSlot;
+use model::Finding;
+use model::PolicySlot;
+use model::Refusal;
+use registry::Admitted;
+use registry::Audited;
+use registry::Carried;
+use registry::Counted;
+use registry::NextFinding;
+use registry::Opened;
+use registry::Reached;
+use registry::Rebuilt;
+use registry::Removed;
+
+// ---- the numbers
+
+fn number(refusal: Refusal) -> u64
+    ensures { λ r. ⌜ (r ≡ refusalNumber refusal) × (r ≤ 12) ⌝ }
+{
+    match refusal {
+        Refusal::MemorySize => 1,
+        Refusal::NotWellFormed => 2,
+        Refusal::BlockLength => 3,
+        Refusal::Checksum => 4,
+        Refusal::Kind => 5,
+        Refusal::Limit => 6,
+        Refusal::Range => 7,
+        Refusal::Order => 8,
+        Refusal::Unused => 9,
+        Refusal::BeyondTable => 10,
+        Refusal::FreeSlot => 11,
+        Refusal::TableFull => 12,
+    }
+}
+
+fn refused(refusal: Refusal) -> u64
+    ensures { λ r. ⌜ r ≡ refusalCode (refusalNumber refusal) ⌝ }
+{
+    number(refusal) * 72057594037927936
+}
+
+fn truth(says: bool) -> u64
+    ensures { λ r. ⌜ r ≡ truthCode says ⌝ }
+{
+    if says { 1 } else { 0 }
+}
+
+fn finding_code(finding: Finding) -> u64
+    ensures { λ r. ⌜ r ≡ findingCode finding ⌝ }
+{
+    finding.kind as u64 * 4294967296 + finding.a as u64 * 65536 + finding.b as u64
+}
+
+// ---- the calls
+
+#[no_mangle]
+pub extern "C" fn bihokura_words() -> u64
+    ensures { λ r. ⌜ r ≡ memoryWords ⌝ }
+{
+    registry::words() as u64
+}
+
+#[no_mangle]
+pub extern "C" fn bihokura_open(memory: &mut [u64], block: &[u8]) -> u64
+    ensures { λ r. ⌜ (now (memory .exit), r) ≡ codedStep (now (memory .entry)) (openWith (now (block .entry))) ⌝ }
+{
+    let answer = registry::open(memory, block);
+    match answer {
+        Opened::Refused(why) => refused(why),
+        Opened::Done => 0,
+    }
+}
+
+#[no_mangle]
+pub extern "C" fn bihokura_admit(memory: &mut [u64], block: &[u8]) -> u64
+    ensures { λ r. ⌜ (now (memory .exit), r) ≡ codedStep (now (memory .entry)) (admit (now (block .entry))) ⌝ }
+{
+    let answer = registry::admit(memory, block);
+    match answer {
+        Admitted::Refused(why) => refused(why),
+        Admitted::Container(slot) => slot.0 as u64,
+        Admitted::Policy(slot) => slot.0 as u64,
+    }
+}
+
+#[no_mangle]
+pub extern "C" fn bihokura_remove_container(memory: &mut [u64], slot: u64) -> u64
+    ensures { λ r. ⌜ (now (memory .exit), r) ≡ codedStep (now (memory .entry)) (removeContainer slot) ⌝ }
+{
+    let answer = registry::remove_container(memory, ContainerSlot(slot as usize));
+    match answer {
+        Removed::Refused(why) => refused(why),
+        Removed::Done => 0,
+    }
+}
+
+#[no_mangle]
+pub extern "C" fn bihokura_remove_policy(memory: &mut [u64], slot: u64) -> u64
+    ensures { λ r. ⌜ (now (memory .exit), r) ≡ codedStep (now (memory .entry)) (removePolicy slot) ⌝ }
+{
+    let answer = registry::remove_policy(memory, PolicySlot(slot as usize));
+    match answer {
+        Removed::Refused(why) => refused(why),
+        Removed::Done => 0,
+    }
+}
+
+#[no_mangle]
+pub extern "C" fn bihokura_reaches(memory: &[u64], a: u64, b: u64) -> u64
+    ensures { λ r. ⌜ (now (memory .entry), r) ≡ codedStep (now (memory .entry)) (askReaches a b) ⌝ }
+{
+    let answer = registry::reaches(memory, ContainerSlot(a as usize), ContainerSlot(b as usize));
+    match answer {
+        Reached::Refused(why) => refused(why),
+        Reached::Says(says) => truth(says),
+    }
+}
+
+#[no_mangle]
+pub extern "C" fn bihokura_carries_user(memory: &[u64], slot: u64, value: u64) -> u64
+    ensures { λ r. ⌜ (now (memory .entry), r) ≡ codedStep (now (memory .entry)) (askUser slot value) ⌝ }
+{
+    let answer = registry::carries_user(memory, ContainerSlot(slot as usize), value);
+    match answer {
+        Carried::Refused(why) => refused(why),
+        Carried::Says(says) => truth(says),
+    }
+}
+
+#[no_mangle]
+pub extern "C" fn bihokura_next_finding(memory: &[u64], kind: u16, a: u16, b: u16) -> u64
+    ensures { λ r. ⌜ (now (memory .entry), r) ≡ codedStep (now (memory .entry)) (nextFinding (record { kind = kind; a = a; b = b })) ⌝ }
+{
+    let answer = registry::next_finding(
+        memory,
+        Cursor {
+            kind: kind,
+            a: a,
+            b: b,
+        },
+    );
+    match answer {
+        NextFinding::Refused(why) => refused(why),
+        NextFinding::Found(finding, _) => finding_code(finding),
+        NextFinding::Nothing => 0,
+    }
+}
+
+#[no_mangle]
+pub extern "C" fn bihokura_counts(memory: &[u64]) -> u64
+    ensures { λ r. ⌜ (now (memory .entry), r) ≡ codedStep (now (memory .entry)) counts ⌝ }
+{
+    let answer = registry::counts(memory);
+    match answer {
+        Counted::Refused(why) => refused(why),
+        Counted::Counts(containers, policies, pairs) => {
+            containers + policies * 65536 + pairs * 4294967296
+        }
+    }
+}
+
+#[no_mangle]
+pub extern "C" fn bihokura_rebuild(memory: &mut [u64]) -> u64
+    ensures { λ r. ⌜ (now (memory .exit), r) ≡ codedStep (now (memory .entry)) rebuild ⌝ }
+{
+    let answer = registry::rebuild(memory);
+    match answer {
+        Rebuilt::Refused(why) => refused(why),
+        Rebuilt::Done => 0,
+    }
+}
+
+#[no_mangle]
+pub extern "C" fn bihokura_audit(memory: &[u64]) -> u64
+    ensures { λ r. ⌜ (now (memory .entry), r) ≡ codedStep (now (memory .entry)) audit ⌝ }
+{
+    let answer = registry::audit(memory);
+    match answer {
+        Audited::Refused(why) => refused(why),
+        Audited::Says(says) => truth(says),
+    }
+}

@@ -1,0 +1,57 @@
+/* Bihokura: a proved register of containers and network policies.
+ *
+ * Every function takes the memory as a pointer and its number of 64-bit words, a block as a pointer and its length in bytes, and
+ * answers one number. Its top byte is the refusal's number of document 01, 0 where the call was accepted; a refused call answers
+ * nothing else and leaves everything lent as it was. Below the top byte stands what the call answers. No function keeps a pointer.
+ * Memory of any size and any contents may be handed over, and blocks of any length; a pointer has to be valid for its length.
+ */
+#ifndef BIHOKURA_H
+#define BIHOKURA_H
+
+#include <stddef.h>
+#include <stdint.h>
+
+#ifdef __cplusplus
+extern "C" {
+#endif
+
+/* The number of words that the memory has to have. */
+uint64_t bihokura_words(void);
+
+/* Begins an empty registry under the settings of a block, whatever the memory held. Answers 0. */
+uint64_t bihokura_open(uint64_t *memory, size_t words, const uint8_t *block, size_t length);
+
+/* Admits the container or the policy of a block, and answers the slot that it took in its table. */
+uint64_t bihokura_admit(uint64_t *memory, size_t words, const uint8_t *block, size_t length);
+
+/* Removes the entry of a slot. Answers 0. */
+uint64_t bihokura_remove_container(uint64_t *memory, size_t words, uint64_t slot);
+uint64_t bihokura_remove_policy(uint64_t *memory, size_t words, uint64_t slot);
+
+/* Whether container a reaches container b, by the stored matrix: 1 or 0. */
+uint64_t bihokura_reaches(const uint64_t *memory, size_t words, uint64_t a, uint64_t b);
+
+/* Whether a container carries a value under the user key: 1 or 0. */
+uint64_t bihokura_carries_user(const uint64_t *memory, size_t words, uint64_t slot, uint64_t value);
+
+/* The first finding after any three numbers, as kind * 2^32 + a * 2^16 + b; 0 if there is none. A walk begins at 0, 0, 0. */
+uint64_t bihokura_next_finding(const uint64_t *memory, size_t words, uint16_t kind, uint16_t a, uint16_t b);
+
+/* Standing containers + standing policies * 2^16 + PAIRS * 2^32. */
+uint64_t bihokura_counts(const uint64_t *memory, size_t words);
+
+/* Sets every stored bit by the rules. Answers 0. */
+uint64_t bihokura_rebuild(uint64_t *memory, size_t words);
+
+/* Whether every stored bit equals the rules: 1 or 0. */
+uint64_t bihokura_audit(const uint64_t *memory, size_t words);
+
+#ifdef __cplusplus
+}
+#endif
+
+/* The refusal's number of an answer, 0 where the call was accepted, and what an accepted call answered. */
+#define BIHOKURA_REFUSAL(answer) ((unsigned)((answer) >> 56))
+#define BIHOKURA_VALUE(answer) ((answer) & 0x00ffffffffffffffu)
+
+#endif

@@ -1,0 +1,598 @@
+//! The same calls under the same contract in plain Rust, as an engineer would write them for speed: the memory's layout, the
+//! test of the whole memory before each call, candidate sets from the entries. It is what the benchmarks compare with.
+
+use crate::reference::refused;
+
+pub const WORDS: usize = 5763;
+const CONTAINERS: usize = 3;
+const POLICIES: usize = 2307;
+const ROWS: usize = 3715;
+
+type Row = [u64; 4];
+
+fn has(row: &Row, i: usize) -> bool {
+    row[i / 64] >> (i % 64) & 1 == 1
+}
+
+fn put(row: &mut Row, i: usize) {
+    row[i / 64] |= 1 << (i % 64);
+}
+
+fn both(a: Row, b: Row) -> Row {
+    std::array::from_fn(|k| a[k] & b[k])
+}
+
+fn either(a: Row, b: Row) -> Row {
+    std::array::from_fn(|k| a[k] | b[k])
+}
+
+fn except(a: Row, b: Row) -> Row {
+    std::array::from_fn(|k| a[k] & !b[k])
+}
+
+fn is_empty(a: &Row) -> bool {
+    a[0] | a[1] | a[2] | a[3] == 0
+}
+
+fn within(a: Row, b: Row) -> bool {
+    is_empty(&except(a, b))
+}
+
+fn next_from(row: &Row, from: usize) -> Option<usize> {
+    let mut at = from;
+    while at < 256 {
+        let w = row[at / 64] >> (at % 64);
+        if w != 0 {
+            return Some(at + w.trailing_zeros() as usize);
+        }
+        at = (at / 64 + 1) * 64;
+    }
+    None
+}
+
+fn row_at(m: &[u64], r: usize) -> Row {
+    let at = ROWS + 4 * r;
+    [m[at], m[at + 1], m[at + 2], m[at + 3]]
+}
+
+fn set_row(m: &mut [u64], r: usize, row: Row) {
+    m[ROWS + 4 * r..ROWS + 4 * r + 4].copy_from_slice(&row);
+}
+
+fn set_bit(m: &mut [u64], r: usize, b: usize, bit: bool) {
+    let w = &mut m[ROWS + 4 * r + b / 64];
+    *w = *w & !(1 << (b % 64)) | u64::from(bit) << (b % 64);
+}
+
+// ---- well formed
+
+fn part_ok(m: &[u64], at: usize, limit: usize) -> bool {
+    let head = m[at] as usize;
+    if head == 0 || head > limit + 1 {
+        return false;
+    }
+    let mut last = 0;
+    for w in &m[at + 1..at + head] {
+        let key = w >> 16;
+        if key <= last || key > 64 || w & 0xffff == 0 {
+            return false;
+        }
+        last = key;
+    }
+    m[at + head..at + 1 + limit].iter().all(|w| *w == 0)
+}
+
+fn standing(m: &[u64], start: usize, words: usize, slots: usize) -> Row {
+    let mut row = [0; 4];
+    for i in 0..slots {
+        if m[start + words * i] != 0 {
+            put(&mut row, i);
+        }
+    }
+    row
+}
+
+pub fn well_formed(m: &[u64]) -> bool {
+    if m.len() != WORDS {
+        return false;
+    }
+    let (user, key, value) = (m[0], m[1], m[2]);
+    if user == 0 || user > 64 || key > 64 || value > 65535 || (key == 0) != (value == 0) {
+        return false;
+    }
+    for c in 0..256 {
+        let at = CONTAINERS + 9 * c;
+        let ok = if m[at] == 0 { m[at..at + 9].iter().all(|w| *w == 0) } else { part_ok(m, at, 8) };
+        if !ok {
+            return false;
+        }
+    }
+    for q in 0..128 {
+        let at = POLICIES + 11 * q;
+        let ok = if m[at] == 0 {
+            m[at..at + 11].iter().all(|w| *w == 0)
+        } else {
+            m[at] <= 2 && part_ok(m, at + 1, 4) && part_ok(m, at + 6, 4)
+        };
+        if !ok {
+            return false;
+        }
+    }
+    let cs = standing(m, CONTAINERS, 9, 256);
+    for r in 0..512 {
+        let owner = if r < 256 { m[CONTAINERS + 9 * r] } else { m[POLICIES + 11 * ((r - 256) / 2)] };
+        let row = row_at(m, r);
+        if !(if owner != 0 { within(row, cs) } else { is_empty(&row) }) {
+            return false;
+        }
+    }
+    true
+}
+
+// ---- blocks
+
+fn number(b: &[u8], at: usize) -> u64 {
+    u64::from(b[at]) * 256 + u64::from(b[at + 1])
+}
+
+fn frame(b: &[u8]) -> Result<(), u64> {
+    if b.len() != 512 {
+        return Err(3);
+    }
+    let mut sum = 0u64;
+    for (i, x) in b[..510].iter().enumerate() {
+        sum += u64::from(*x) * (i as u64 + 1);
+    }
+    if number(b, 510) == sum % 65521 { Ok(()) } else { Err(4) }
+}
+
+/// Words of a part: the header, then the labels.
+fn labels(b: &[u8], at: usize, n: usize) -> ([u64; 9], bool, bool) {
+    let mut words = [0; 9];
+    words[0] = 1 + n as u64;
+    let (mut range, mut order, mut last) = (true, true, 0);
+    for k in 0..n {
+        let (key, value) = (number(b, at + 4 * k), number(b, at + 4 * k + 2));
+        range &= (1..=64).contains(&key) && value != 0;
+        order &= key > last;
+        last = key;
+        words[k + 1] = key << 16 | value;
+    }
+    (words, range, order)
+}
+
+pub enum Entry {
+    Container([u64; 9]),
+    Policy([u64; 11]),
+}
+
+pub fn read_entry(b: &[u8]) -> Result<Entry, u64> {
+    frame(b)?;
+    let zero = |from: usize| b[from..510].iter().all(|x| *x == 0);
+    match b[0] {
+        67 => {
+            let n = usize::from(b[1]);
+            if n > 8 {
+                return Err(6);
+            }
+            let (words, range, order) = labels(b, 4, n);
+            if !range {
+                return Err(7);
+            }
+            if !order {
+                return Err(8);
+            }
+            if b[2] != 0 || b[3] != 0 || !zero(4 + 4 * n) {
+                return Err(9);
+            }
+            Ok(Entry::Container(words))
+        }
+        80 => {
+            let (d, s, a) = (b[1], usize::from(b[2]), usize::from(b[3]));
+            if d == 0 || d > 2 || s > 4 || a > 4 {
+                return Err(6);
+            }
+            let (select, r1, o1) = labels(b, 4, s);
+            let (allow, r2, o2) = labels(b, 4 + 4 * s, a);
+            if !(r1 && r2) {
+                return Err(7);
+            }
+            if !(o1 && o2) {
+                return Err(8);
+            }
+            if !zero(4 + 4 * (s + a)) {
+                return Err(9);
+            }
+            let mut words = [0; 11];
+            words[0] = u64::from(d);
+            words[1..6].copy_from_slice(&select[..5]);
+            words[6..11].copy_from_slice(&allow[..5]);
+            Ok(Entry::Policy(words))
+        }
+        _ => Err(5),
+    }
+}
+
+pub fn open(m: &mut [u64], b: &[u8]) -> u64 {
+    if m.len() != WORDS {
+        return refused(1);
+    }
+    if let Err(n) = frame(b) {
+        return refused(n);
+    }
+    if b[0] != 83 {
+        return refused(5);
+    }
+    let (user, key, value) = (u64::from(b[1]), u64::from(b[2]), number(b, 4));
+    if user == 0 || user > 64 || key > 64 || (key == 0) != (value == 0) {
+        return refused(7);
+    }
+    if b[3] != 0 || b[6..510].iter().any(|x| *x != 0) {
+        return refused(9);
+    }
+    m.fill(0);
+    m[..3].copy_from_slice(&[user, key, value]);
+    0
+}
+
+// ---- by the rules
+
+fn matches(m: &[u64], part: usize, at: usize) -> bool {
+    let (p, c) = (&m[part + 1..part + m[part] as usize], &m[at + 1..at + m[at] as usize]);
+    p.iter().all(|w| c.contains(w))
+}
+
+struct Sets {
+    selected: [Row; 128],
+    allowed: [Row; 128],
+    ingress: Row,
+    egress: Row,
+    containers: Row,
+}
+
+fn sets(m: &[u64]) -> Sets {
+    let containers = standing(m, CONTAINERS, 9, 256);
+    let mut s = Sets { selected: [[0; 4]; 128], allowed: [[0; 4]; 128], ingress: [0; 4], egress: [0; 4], containers };
+    for q in 0..128 {
+        let at = POLICIES + 11 * q;
+        match m[at] {
+            0 => continue,
+            1 => put(&mut s.ingress, q),
+            _ => put(&mut s.egress, q),
+        }
+        let mut from = 0;
+        while let Some(c) = next_from(&containers, from) {
+            let slot = CONTAINERS + 9 * c;
+            if matches(m, at + 1, slot) {
+                put(&mut s.selected[q], c);
+            }
+            if matches(m, at + 6, slot) {
+                put(&mut s.allowed[q], c);
+            }
+            from = c + 1;
+        }
+    }
+    s
+}
+
+fn union(policies: &Row, rows: &[Row; 128]) -> Row {
+    let mut u = [0; 4];
+    for q in 0..128 {
+        if has(policies, q) {
+            u = either(u, rows[q]);
+        }
+    }
+    u
+}
+
+/// Row a of the matrix; with the directions exchanged, column a.
+fn by_rules(s: &Sets, out: &Row, back: &Row, chosen: Row, a: usize) -> Row {
+    if !has(&s.containers, a) {
+        return [0; 4];
+    }
+    let (mut any, mut allowed) = (false, [0; 4]);
+    for q in 0..128 {
+        if has(out, q) && has(&s.selected[q], a) {
+            any = true;
+            allowed = either(allowed, s.allowed[q]);
+        }
+    }
+    let first = if any { both(s.containers, allowed) } else { s.containers };
+    let mut taken = [0; 4];
+    for q in 0..128 {
+        if has(back, q) && has(&s.allowed[q], a) {
+            taken = either(taken, s.selected[q]);
+        }
+    }
+    either(except(first, chosen), both(first, taken))
+}
+
+fn policy_changed(m: &mut [u64], q: usize, direction: u64, sel: Row) {
+    let s = sets(m);
+    set_row(m, 256 + 2 * q, s.selected[q]);
+    set_row(m, 257 + 2 * q, s.allowed[q]);
+    let chosen = union(&s.ingress, &s.selected);
+    for a in 0..256 {
+        let mask = match direction {
+            1 => sel,
+            _ if has(&sel, a) => s.containers,
+            _ => continue,
+        };
+        if has(&s.containers, a) {
+            let row = by_rules(&s, &s.egress, &s.ingress, chosen, a);
+            set_row(m, a, either(except(row_at(m, a), mask), both(row, mask)));
+        }
+    }
+}
+
+fn selecting(m: &[u64], part: usize) -> Row {
+    let containers = standing(m, CONTAINERS, 9, 256);
+    let (mut row, mut from) = ([0; 4], 0);
+    while let Some(c) = next_from(&containers, from) {
+        if matches(m, part, CONTAINERS + 9 * c) {
+            put(&mut row, c);
+        }
+        from = c + 1;
+    }
+    row
+}
+
+fn lowest_free(m: &[u64], start: usize, words: usize, slots: usize) -> Option<usize> {
+    (0..slots).find(|i| m[start + words * i] == 0)
+}
+
+fn tested(m: &[u64]) -> Result<(), u64> {
+    if m.len() != WORDS {
+        return Err(1);
+    }
+    if !well_formed(m) {
+        return Err(2);
+    }
+    Ok(())
+}
+
+fn answer(r: Result<u64, u64>) -> u64 {
+    r.unwrap_or_else(refused)
+}
+
+pub fn admit(m: &mut [u64], b: &[u8]) -> u64 {
+    answer((|| {
+        tested(m)?;
+        match read_entry(b)? {
+            Entry::Container(words) => {
+                let c = lowest_free(m, CONTAINERS, 9, 256).ok_or(12u64)?;
+                m[CONTAINERS + 9 * c..CONTAINERS + 9 * c + 9].copy_from_slice(&words);
+                let s = sets(m);
+                let row = by_rules(&s, &s.egress, &s.ingress, union(&s.ingress, &s.selected), c);
+                let column = by_rules(&s, &s.ingress, &s.egress, union(&s.egress, &s.selected), c);
+                set_row(m, c, row);
+                for a in 0..256 {
+                    set_bit(m, a, c, has(&column, a));
+                }
+                for q in 0..128 {
+                    set_bit(m, 256 + 2 * q, c, has(&s.selected[q], c));
+                    set_bit(m, 257 + 2 * q, c, has(&s.allowed[q], c));
+                }
+                Ok(c as u64)
+            }
+            Entry::Policy(words) => {
+                let q = lowest_free(m, POLICIES, 11, 128).ok_or(12u64)?;
+                let at = POLICIES + 11 * q;
+                m[at..at + 11].copy_from_slice(&words);
+                let sel = selecting(m, at + 1);
+                policy_changed(m, q, words[0], sel);
+                Ok(q as u64)
+            }
+        }
+    })())
+}
+
+fn slot(m: &[u64], start: usize, words: usize, slots: u64, i: u64) -> Result<usize, u64> {
+    if i >= slots {
+        return Err(10);
+    }
+    if m[start + words * i as usize] == 0 {
+        return Err(11);
+    }
+    Ok(i as usize)
+}
+
+pub fn remove_container(m: &mut [u64], i: u64) -> u64 {
+    answer((|| {
+        tested(m)?;
+        let c = slot(m, CONTAINERS, 9, 256, i)?;
+        m[CONTAINERS + 9 * c..CONTAINERS + 9 * c + 9].fill(0);
+        set_row(m, c, [0; 4]);
+        for r in 0..512 {
+            set_bit(m, r, c, false);
+        }
+        Ok(0)
+    })())
+}
+
+pub fn remove_policy(m: &mut [u64], i: u64) -> u64 {
+    answer((|| {
+        tested(m)?;
+        let q = slot(m, POLICIES, 11, 128, i)?;
+        let at = POLICIES + 11 * q;
+        let (direction, sel) = (m[at], selecting(m, at + 1));
+        m[at..at + 11].fill(0);
+        policy_changed(m, q, direction, sel);
+        Ok(0)
+    })())
+}
+
+pub fn reaches(m: &[u64], a: u64, b: u64) -> u64 {
+    answer((|| {
+        tested(m)?;
+        if a >= 256 || b >= 256 {
+            return Err(10);
+        }
+        let (a, b) = (slot(m, CONTAINERS, 9, 256, a)?, slot(m, CONTAINERS, 9, 256, b)?);
+        Ok(u64::from(has(&row_at(m, a), b)))
+    })())
+}
+
+fn user(m: &[u64], c: usize) -> u64 {
+    let at = CONTAINERS + 9 * c;
+    let head = m[at] as usize;
+    if head == 0 {
+        return 0;
+    }
+    m[at + 1..at + head].iter().copied().find(|w| w >> 16 == m[0]).unwrap_or(0)
+}
+
+pub fn carries_user(m: &[u64], i: u64, value: u64) -> u64 {
+    answer((|| {
+        tested(m)?;
+        let c = slot(m, CONTAINERS, 9, 256, i)?;
+        Ok(u64::from(value != 0 && value <= 65535 && user(m, c) == m[0] << 16 | value))
+    })())
+}
+
+pub fn counts(m: &[u64]) -> u64 {
+    answer((|| {
+        tested(m)?;
+        let count = |start: usize, words: usize, slots: usize| {
+            standing(m, start, words, slots).iter().map(|w| u64::from(w.count_ones())).sum::<u64>()
+        };
+        let pairs: u64 = m[ROWS..ROWS + 1024].iter().map(|w| u64::from(w.count_ones())).sum();
+        Ok(count(CONTAINERS, 9, 256) + (count(POLICIES, 11, 128) << 16) + (pairs << 32))
+    })())
+}
+
+fn computed(m: &[u64], mut each: impl FnMut(usize, Row)) {
+    let s = sets(m);
+    let chosen = union(&s.ingress, &s.selected);
+    for a in 0..256 {
+        each(a, by_rules(&s, &s.egress, &s.ingress, chosen, a));
+    }
+    for q in 0..128 {
+        each(256 + 2 * q, s.selected[q]);
+        each(257 + 2 * q, s.allowed[q]);
+    }
+}
+
+pub fn rebuild(m: &mut [u64]) -> u64 {
+    if let Err(n) = tested(m) {
+        return refused(n);
+    }
+    let entries = m.to_vec();
+    computed(&entries, |r, row| set_row(m, r, row));
+    0
+}
+
+pub fn audit(m: &[u64]) -> u64 {
+    if let Err(n) = tested(m) {
+        return refused(n);
+    }
+    let mut same = true;
+    computed(m, |r, row| same &= row_at(m, r) == row);
+    u64::from(same)
+}
+
+// ---- findings
+
+fn column(m: &[u64], a: usize) -> Row {
+    let mut row = [0; 4];
+    for c in 0..256 {
+        if m[ROWS + 4 * c + a / 64] >> (a % 64) & 1 == 1 {
+            put(&mut row, c);
+        }
+    }
+    row
+}
+
+fn finding_row(m: &[u64], cs: &Row, ps: &Row, kind: usize, a: usize) -> Row {
+    let only = |b: usize, t: bool| if t { [1 << b, 0, 0, 0] } else { [0; 4] };
+    if !has(if kind < 5 { cs } else { ps }, a) {
+        return [0; 4];
+    }
+    let mut row = [0; 4];
+    match kind {
+        1 => only(0, within(*cs, column(m, a))),
+        2 => only(0, is_empty(&both(*cs, column(m, a)))),
+        3 => {
+            let mut others = both(*cs, row_at(m, a));
+            others[a / 64] &= !(1 << (a % 64));
+            let u = user(m, a);
+            if u != 0 {
+                let mut from = 0;
+                while let Some(b) = next_from(&others, from) {
+                    if user(m, b) == u {
+                        put(&mut row, b);
+                    }
+                    from = b + 1;
+                }
+            }
+            except(others, row)
+        }
+        4 => {
+            let at = CONTAINERS + 9 * a;
+            let label = m[1] << 16 | m[2];
+            if m[1] == 0 || !m[at + 1..at + m[at] as usize].contains(&label) {
+                return row;
+            }
+            let mut others = except(*cs, row_at(m, a));
+            others[a / 64] &= !(1 << (a % 64));
+            others
+        }
+        5 | 6 => {
+            let (s, w, d) = (row_at(m, 256 + 2 * a), row_at(m, 257 + 2 * a), m[POLICIES + 11 * a]);
+            if is_empty(&w) || kind == 5 && is_empty(&s) {
+                return row;
+            }
+            for b in 0..128 {
+                if m[POLICIES + 11 * b] != d || a == b {
+                    continue;
+                }
+                let (t, v) = (row_at(m, 256 + 2 * b), row_at(m, 257 + 2 * b));
+                let hit = if kind == 5 {
+                    within(s, t) && within(w, v) && (b < a || !(within(t, s) && within(v, w)))
+                } else {
+                    a < b && !is_empty(&both(s, t)) && !is_empty(&v) && is_empty(&both(w, v))
+                };
+                if hit {
+                    put(&mut row, b);
+                }
+            }
+            row
+        }
+        _ => {
+            let (s, w) = (row_at(m, 256 + 2 * a), row_at(m, 257 + 2 * a));
+            if is_empty(&s) {
+                only(0, true)
+            } else {
+                only(1, is_empty(&w))
+            }
+        }
+    }
+}
+
+pub fn next_after(m: &[u64], kind: u16, a: u16, b: u16) -> u64 {
+    let cs = standing(m, CONTAINERS, 9, 256);
+    let ps = standing(m, POLICIES, 11, 128);
+    let (mut kind, mut a, mut from) = (usize::from(kind), usize::from(a), usize::from(b) + 1);
+    while kind < 8 {
+        if kind > 0 {
+            while a < 256 {
+                if let Some(b) = next_from(&finding_row(m, &cs, &ps, kind, a), from) {
+                    return ((kind as u64) << 32) + ((a as u64) << 16) + b as u64;
+                }
+                a += 1;
+                from = 0;
+            }
+        }
+        kind += 1;
+        a = 0;
+        from = 0;
+    }
+    0
+}
+
+pub fn next_finding(m: &[u64], kind: u16, a: u16, b: u16) -> u64 {
+    match tested(m) {
+        Ok(()) => next_after(m, kind, a, b),
+        Err(n) => refused(n),
+    }
+}

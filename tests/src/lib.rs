@@ -1,0 +1,8 @@
+//! Tests of the register over its C interface, against a register written separately from document 01.
+
+pub mod baseline;
+pub mod bytes;
+pub mod c;
+pub mod cases;
+pub mod random;
+pub mod reference;
