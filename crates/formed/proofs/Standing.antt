@@ -1,9 +1,9 @@
 -- Standing slots as bits: a word that a loop gathers, and four such words as the row of a table. Assumes nothing.
-use mathlib.Core.Path.{_≡_, refl, sym, ap, _∙_, fun-ext}
-use mathlib.Core.Bool.{Bool, false, not, _&&_, _||_, and-true, and-false, and-comm, or-comm}
+use mathlib.Core.Path.{_≡_, refl, sym, ap, _∙_, fun-ext, ap₂}
+use mathlib.Core.Bool.{Bool, false, not, _&&_, _||_, and-true, and-false, and-comm, or-comm, true}
 use mathlib.Core.List.{List, [], _∷_}
 use Prim.Native.Nat.{ℕ, zero, suc, _+_, _*_, _%_, _^_, _<_, _≤_}
-use native.Mathlib.Nat.{mul-le-mul-left}
+use native.Mathlib.Nat.{mul-le-mul-left, mod-eq-of-lt}
 use native.Mathlib.Omega.{arith}
 use lib.Bits.{bitOr}
 use lib.Dec.{eqb, ltb}
@@ -11,7 +11,7 @@ use lib.ListN.{getD}
 use borrow.Author.Tests.{eq-eqb, ne-eqb}
 use Rattle.bitrow.specs.Bit.{bit, bitAt}
 use Rattle.bitrow.specs.Set.{nothing, insert, meet, under, Bounded}
-use Rattle.bitrow.proofs.Sets.{at, meet-at, meet-take, meet-skip, meet-nothing, under-zero, under-in, under-out, bounded-under, bounded-raise, bounded-meet-right}
+use Rattle.bitrow.proofs.Sets.{at, meet-at, meet-take, meet-skip, meet-nothing, nothing-meet, under-zero, under-in, under-out, bounded-under, bounded-raise, bounded-meet-right}
 use Rattle.bitrow.proofs.Words.{bit-or, bit-pow, bit-zero, one-shl}
 use Rattle.bitrow.proofs.Rows.{words-are}
 use Rattle.model.specs.Table.{stands}
@@ -35,19 +35,41 @@ set-bit : (n w k : ℕ) → k < n → bit (bitOr w ((1 * 2 ^ k) % 2 ^ n)) ≡ in
 unfolding insert
 set-bit n w k h = fun-ext (λ j. ap (λ x. bit (bitOr w x) j) (one-shl n k h) ∙ bit-or w (2 ^ k) j ∙ or-comm (bit w j) (bit (2 ^ k) j) ∙ ap (λ t. t || bit w j) (bit-pow k j))
 
-pub heads-none : (m : List ℕ) (from step : ℕ) → bit 0 ≡ meet (heads m from step) (under 0)
+-- a word that has gathered the numbers of s below k, and the next
+pub word-none : (s : ℕ → Bool) → bit 0 ≡ meet s (under 0)
 unfolding nothing
-heads-none m from step = fun-ext bit-zero ∙ sym (ap (meet (heads m from step)) under-zero ∙ meet-nothing (heads m from step))
+word-none s = fun-ext bit-zero ∙ sym (ap (meet s) under-zero ∙ meet-nothing s)
+
+module _ (s : ℕ → Bool) (k w : ℕ) (e : bit w ≡ meet s (under k)) where
+  pub word-skip : s k ≡ false → bit w ≡ meet s (under (k + 1))
+  word-skip z = e ∙ meet-skip s k z
+
+  pub word-take : (n : ℕ) → k < n → s k ≡ true → bit (bitOr w ((1 * 2 ^ k) % 2 ^ n)) ≡ meet s (under (k + 1))
+  word-take n h z = set-bit n w k h ∙ ap (insert k) e ∙ meet-take s k z
+
+-- a number of a word that a set has, as the code tests both
+pub in-both : (w k : ℕ) (s : ℕ → Bool) → k < 64 → (t u : Bool) → bit w (k % 64) ≡ t → s k ≡ u → meet (bit w) s k ≡ (t && u)
+in-both w k s h t u e f = meet-at (bit w) s k ∙ ap₂ _&&_ (ap (bit w) (sym (mod-eq-of-lt h)) ∙ e) f
+
+-- no number of an empty word
+pub word-empty : (w : ℕ) (s t : ℕ → Bool) → w ≡ 0 → bit 0 ≡ meet (meet (bit w) s) t
+unfolding nothing
+word-empty w s t z =
+    let n : bit 0 ≡ nothing = fun-ext bit-zero in
+    n ∙ sym (ap (λ v. meet (meet (bit v) s) t) z ∙ ap (λ f. meet (meet f s) t) n ∙ ap (λ f. meet f t) (nothing-meet s) ∙ nothing-meet t)
+
+pub heads-none : (m : List ℕ) (from step : ℕ) → bit 0 ≡ meet (heads m from step) (under 0)
+heads-none m from step = word-none (heads m from step)
 
 module _ (m : List ℕ) (from step k w : ℕ) (e : bit w ≡ meet (heads m from step) (under k)) where
   pub heads-skip : wordAt m (from + step * k) ≡ 0 → bit w ≡ meet (heads m from step) (under (k + 1))
   unfolding heads
-  heads-skip z = e ∙ meet-skip (heads m from step) k (ap not (eq-eqb _ _ z))
+  heads-skip z = word-skip (heads m from step) k w e (ap not (eq-eqb _ _ z))
 
   pub heads-take : (n : ℕ) → k < n → (wordAt m (from + step * k) ≡ 0 → ⊥)
       → bit (bitOr w ((1 * 2 ^ k) % 2 ^ n)) ≡ meet (heads m from step) (under (k + 1))
   unfolding heads
-  heads-take n h z = set-bit n w k h ∙ ap (insert k) e ∙ meet-take (heads m from step) k (ap not (ne-eqb _ _ z))
+  heads-take n h z = word-take (heads m from step) k w e n h (ap not (ne-eqb _ _ z))
 
 -- slot k of n that fit
 pub slot-within : (from step k n size : ℕ) → k < n → 0 < step → from + n * step ≤ size → from + step * k < size
@@ -73,7 +95,7 @@ module _ (m : List ℕ) (from step n : ℕ) where
   heads-bounded h = bounded-meet-right (bounded-raise h (bounded-under n)) (heads m from step)
 
 -- four words, by what each is
-words-row : (s : ℕ → Bool) (a b c d : ℕ) → Bounded 256 s
+pub words-row : (s : ℕ → Bool) (a b c d : ℕ) → Bounded 256 s
     → ((i : ℕ) → i < 64 → bit a i ≡ s (0 + i)) → ((i : ℕ) → i < 64 → bit b i ≡ s (64 + i))
     → ((i : ℕ) → i < 64 → bit c i ≡ s (128 + i)) → ((i : ℕ) → i < 64 → bit d i ≡ s (192 + i))
     → bitAt (a ∷ b ∷ c ∷ d ∷ []) ≡ s

@@ -1,13 +1,17 @@
 -- The trial of a part, and the rows that it gives. Assumes nothing.
 use mathlib.Core.Path.{_≡_, refl, sym, ap, ap₂, _∙_, fun-ext, subst}
 use mathlib.Core.Bool.{Bool, true, false, _&&_, cond, and-true}
-use mathlib.Core.List.{List}
+use mathlib.Core.List.{List, [], _∷_}
 use mathlib.Core.Option.{Option, none, some}
-use Prim.Native.Nat.{ℕ, _+_, _-_, _<_, _≤_}
+use Prim.Native.Nat.{ℕ, _+_, _*_, _-_, _<_, _≤_}
 use native.Mathlib.Decide.{decLt}
 use native.Mathlib.Omega.{arith}
 use lib.Dec.{eqb}
+use lib.ListN.{getD}
 use Rattle.block.specs.Entry.{Container}
+use Rattle.bitrow.specs.Bit.{bit, bitAt}
+use Rattle.bitrow.proofs.Rows.{word-bit}
+use Rattle.bitrow.proofs.Sets.{at as point}
 use Rattle.bitrow.specs.Set.{under, insert, meet, Bounded, Lowest}
 use Rattle.bitrow.proofs.Sets.{meet-at, under-in, under-out, meet-next, meet-under, bounded-meet-left}
 use Rattle.model.specs.Table.{on, at, stands}
@@ -19,8 +23,9 @@ use Rattle.store.proofs.Cases.{by-eqb}
 use Rattle.store.proofs.Image.{getD-tab, tab-beyond}
 use Rattle.formed.specs.Words.{labelsIn, partIn, containerIn, policyAt, policyIn}
 use Rattle.formed.specs.Registry.{modelIn}
-use Rattle.formed.specs.Entries.{PartWithin, HeadsBound, matching, trialSet}
+use Rattle.formed.specs.Entries.{PartWithin, HeadsBound, SlotsOfParts, matching, matchingFrom, trialSet}
 use Rattle.formed.proofs.Tests.{clash}
+use Rattle.formed.proofs.Standing.{meet-in, words-row}
 
 -- ---- parts that lie within the memory
 
@@ -33,6 +38,32 @@ module _ (m : List ℕ) (w : Whole m) (b : HeadsBound m) where
 
   pub allow-within : (q : ℕ) → q < 128 → PartWithin m (policyStart q + 6)
   allow-within q h = record { header = omega (arith, w); labels = omega (arith, w, b .allow q h) }
+
+  -- 64 container slots, of which slot j is the first
+  pub slots-within : (j : ℕ) → j + 64 ≤ 256 → SlotsOfParts m (containerStart j)
+  slots-within j h = record {
+    slot = λ i l. let e : containerStart (j + i) ≡ containerStart j + 9 * i = omega arith in subst (PartWithin m) e (container-within (j + i) (omega arith));
+  }
+
+-- ---- four words, each the trial over 64 containers
+
+module _ (m : List ℕ) (part : ℕ) (cs : List ℕ) where
+  trial-bit : (k w : ℕ) → bit w ≡ meet (meet (bit (getD cs k 0)) (matchingFrom m part (containerStart (k * 64)))) (under 64)
+      → (i : ℕ) → i < 64 → bit w i ≡ trialSet m part (bitAt cs) (k * 64 + i)
+  unfolding matching matchingFrom
+  trial-bit k w e i h =
+      let p : containerStart (k * 64) + 9 * i ≡ containerStart (k * 64 + i) = omega arith in
+      point e i ∙ meet-in _ 64 i h ∙ meet-at (bit (getD cs k 0)) _ i
+      ∙ ap₂ _&&_ (sym (word-bit cs k i h)) (ap (λ x. matches (partIn m part) (partIn m x)) p) ∙ sym (meet-at (bitAt cs) _ (k * 64 + i))
+
+  pub trial-row : Bounded 256 (bitAt cs) → (a b c d : ℕ)
+      → bit a ≡ meet (meet (bit (getD cs 0 0)) (matchingFrom m part 3)) (under 64)
+      → bit b ≡ meet (meet (bit (getD cs 1 0)) (matchingFrom m part 579)) (under 64)
+      → bit c ≡ meet (meet (bit (getD cs 2 0)) (matchingFrom m part 1155)) (under 64)
+      → bit d ≡ meet (meet (bit (getD cs 3 0)) (matchingFrom m part 1731)) (under 64)
+      → bitAt (a ∷ b ∷ c ∷ d ∷ []) ≡ trialSet m part (bitAt cs)
+  trial-row q a b c d e f g h =
+      words-row (trialSet m part (bitAt cs)) a b c d (bounded-meet-left q (matching m part)) (trial-bit 0 a e) (trial-bit 1 b f) (trial-bit 2 c g) (trial-bit 3 d h)
 
 -- ---- those of s that f passes, gathered in rising order
 

@@ -31,6 +31,14 @@ pub record HeadsBound (m : List ℕ) : Type 0 where
 unfoldable pub matching : List ℕ → ℕ → ℕ → Bool
 matching m part c = matches (partIn m part) (partIn m (containerStart c))
 
+-- 64 slots of nine words each, from `at` on, whose parts lie within the memory
+pub record SlotsOfParts (m : List ℕ) (at : ℕ) : Type 0 where
+  pub slot : (i : ℕ) → i < 64 → PartWithin m (at + 9 * i)
+
+-- those of slots nine words apart, from `at` on, that carry every label of the part whose header is at `part`
+unfoldable pub matchingFrom : List ℕ → ℕ → ℕ → ℕ → Bool
+matchingFrom m part at i = matches (partIn m part) (partIn m (at + 9 * i))
+
 -- the trial of a part: those of the candidates that it matches
 abbrev pub trialSet : List ℕ → ℕ → (ℕ → Bool) → ℕ → Bool
 trialSet m part candidates = meet candidates (matching m part)

@@ -1,14 +1,14 @@
 // Entries read from memory: labels of parts, the trial of a part, the search for a free slot.
 ghost use mathlib.Core.Path.{_≡_};
 ghost use Prim.Native.Nat.{_-_};
-ghost use Rattle.bitrow.specs.Bit.{bitAt};
-ghost use Rattle.bitrow.specs.Set.{firstOf};
+ghost use Rattle.bitrow.specs.Bit.{bit, bitAt};
+ghost use Rattle.bitrow.specs.Set.{meet, under, firstOf};
 ghost use Rattle.model.specs.Rules.{carries as carriesLabel, matches as matchesPart};
 ghost use Rattle.model.specs.Table.{lowestFree};
 ghost use Rattle.store.specs.Layout.{Whole};
 ghost use Rattle.formed.specs.Words.{labelIn, partIn};
 ghost use Rattle.formed.specs.Registry.{modelIn};
-ghost use Rattle.formed.specs.Entries.{PartWithin, HeadsBound, trialSet, wordUnder, freeIn, SlotsWithin, freeContainer, freePolicy};
+ghost use Rattle.formed.specs.Entries.{PartWithin, HeadsBound, SlotsOfParts, matchingFrom, trialSet, wordUnder, freeIn, SlotsWithin, freeContainer, freePolicy};
 use bitrow::Found;
 use model::ContainerSlot;
 use model::PolicySlot;
@@ -57,24 +57,39 @@ pub fn matches(memory: &[u64], part: usize, at: usize) -> bool
     true
 }
 
+// The trial of a part over 64 containers, of which `word` has the candidates and whose first words stand nine apart from `at` on.
+fn trial_word(memory: &[u64], part: usize, word: u64, at: usize) -> u64
+    requires { ⌜ PartWithin (now memory) part × SlotsOfParts (now memory) at ⌝ }
+    ensures { λ r. ⌜ bit r ≡ meet (meet (bit word) (matchingFrom (now (memory .entry)) part at)) (under 64) ⌝ }
+{
+    let mut chosen = 0u64;
+    if word == 0 {
+        return chosen;
+    }
+    let mut i = 0;
+    while i < 64 {
+        let k = i;
+        i += 1;
+        if bitrow::bit_of(word, k) {
+            if matches(memory, part, at + 9 * k) {
+                chosen = chosen | (1u64 << k);
+            }
+        }
+    }
+    chosen
+}
+
 // The trial of a part: those of the candidates that carry every label of it.
 pub fn trial(memory: &[u64], part: usize, candidates: [u64; 4]) -> [u64; 4]
     requires { ⌜ Whole (now memory) × PartWithin (now memory) part × HeadsBound (now memory) ⌝ }
     ensures { λ r. ⌜ bitAt r ≡ trialSet (now (memory .entry)) part (bitAt candidates) ⌝ }
 {
-    let mut chosen = bitrow::none();
-    let mut from = 0;
-    loop {
-        let found = bitrow::next_from(candidates, from);
-        let Found::At(c) = found else {
-            return chosen;
-        };
-        from = c + 1;
-        if matches(memory, part, store::CONTAINERS + 9 * c) {
-            let next = bitrow::with(chosen, c);
-            chosen = next;
-        }
-    }
+    [
+        trial_word(memory, part, candidates[0], store::CONTAINERS),
+        trial_word(memory, part, candidates[1], store::CONTAINERS + 576),
+        trial_word(memory, part, candidates[2], store::CONTAINERS + 1152),
+        trial_word(memory, part, candidates[3], store::CONTAINERS + 1728),
+    ]
 }
 
 // The word of the label under this key of the part whose header is at `at`, 0 where it has none.

@@ -1,6 +1,7 @@
 -- On computed bits the registry's step is the model's, and so for every list of calls. Assumes nothing.
 use mathlib.Core.Path.{_≡_, refl, sym, ap, _∙_}
 use mathlib.Core.Bool.{Bool, true, false, not, _&&_, _||_, cond}
+use mathlib.Core.Logic.{_↔_}
 use mathlib.Core.List.{List, [], _∷_, _++_}
 use mathlib.Core.Option.{Option, none, some}
 use Prim.Native.Nat.{ℕ, _<_}
@@ -20,12 +21,12 @@ use Rattle.model.specs.Model.{containerSlots, policySlots, Model, empty,
 use Rattle.model.specs.Calls.{Call, openWith, admit, removeContainer, removePolicy, askReaches, askUser, nextFinding, counts, rebuild, audit}
 use Rattle.model.specs.Calls.{Answer, refusal, done, containerAt, policyAt, says, run}
 use Rattle.model.specs.ModelStep.{opening, placing, placingPolicy, admitting, removing, removingPolicy, asking, askingUser, modelStep}
-use Rattle.model.specs.Registry.{Registry, computed, consistent, changeContainer, changePolicy, opened, rebuilt}
+use Rattle.model.specs.Registry.{Registry, computed, consistent, FollowsRules, changeContainer, changePolicy, opened, rebuilt}
 use Rattle.model.specs.Refusals.{where0, beyond, slotChecks, pairChecks, noRoom, refusals}
 use Rattle.model.specs.RegistryStep.{admitContainer, admitPolicy, admitEntry, takePolicy, acceptedStep, unlessRefused, registryStep}
 use Rattle.model.proofs.Tables.{at-lowest, full-lowest, free-at, beyond-ltb}
 use Rattle.model.proofs.Unchanged.{container-changed, policy-admitted, policy-removed, opened-computed}
-use Rattle.model.proofs.Consistent.{computed-consistent}
+use Rattle.model.proofs.Consistent.{consistent-exactly, computed-consistent}
 
 -- the two tables have their numbers of slots
 pub record Sized (m : Model) : Type 0 where
@@ -256,3 +257,11 @@ accepted-open r b s = pick (firstRefusal (settingsChecks b))
 pub opened-agrees : (r : Registry) (b : List ℕ) (s : Settings) → readSettings b ≡ accepted s → (calls : List Call)
     → run registryStep (registryStep r (openWith b) .0) calls ≡ asComputed (run modelStep (empty s) calls)
 opened-agrees r b s e calls = rw (accepted-open r b s e) (run-agrees (empty s) (sized-empty s) calls)
+
+says-same : (t u : Bool) → says t ≡ says u → t ≡ u
+says-same t u e = cc
+
+-- Audit says yes exactly if every stored bit equals the rules.
+pub audit-exactly : (r : Registry) → (registryStep r audit .1 ≡ says true) ↔ FollowsRules r
+unfolding registryStep refusals unlessRefused acceptedStep
+audit-exactly r = (λ e. consistent-exactly r .0 (says-same (consistent r) true e), λ h. ap says (consistent-exactly r .1 h))

@@ -5,7 +5,7 @@ use bihokura_tests::{baseline as b, bytes, c};
 use std::hint::black_box;
 use std::time::Instant;
 
-/// The median time of a call in nanoseconds: batches of the same work, timed in turn.
+/// The lowest time of a call in nanoseconds over batches of the same work: what disturbs a batch only makes it slower.
 fn time(mut work: impl FnMut()) -> f64 {
     let mut once = 1;
     loop {
@@ -18,7 +18,7 @@ fn time(mut work: impl FnMut()) -> f64 {
         }
         once *= 2;
     }
-    let mut times: Vec<f64> = (0..25)
+    (0..40)
         .map(|_| {
             let began = Instant::now();
             for _ in 0..once {
@@ -26,9 +26,7 @@ fn time(mut work: impl FnMut()) -> f64 {
             }
             began.elapsed().as_nanos() as f64 / f64::from(once)
         })
-        .collect();
-    times.sort_by(|x, y| x.total_cmp(y));
-    times[times.len() / 2]
+        .fold(f64::INFINITY, f64::min)
 }
 
 fn labels(i: u64) -> Vec<(u16, u16)> {
@@ -74,8 +72,8 @@ struct Line {
     plain: f64,
 }
 
-fn line(name: &str, ours: impl FnMut(), plain: impl FnMut()) -> Line {
-    Line { name: name.to_string(), ours: time(ours), plain: time(plain) }
+fn line(name: &str, ours: f64, plain: f64) -> Line {
+    Line { name: name.to_string(), ours, plain }
 }
 
 fn all_calls(containers: u64, policies: u64) -> Vec<Line> {
@@ -90,21 +88,20 @@ fn all_calls(containers: u64, policies: u64) -> Vec<Line> {
     bad[509] = 1;
     bytes::seal(&mut bad);
     let mut m = full.clone();
-    let mut n = full.clone();
-    // a change is timed with the copy of the memory that it starts from, on both sides
+    // a change is timed with the copy of the memory that it starts from, on both sides into one buffer
     macro_rules! both {
-        ($name:expr, $from:expr, $call:ident ( $($arg:expr),* )) => {
-            line(
-                $name,
-                || { m.copy_from_slice(&$from); black_box(c::$call(&mut m, $($arg),*)); },
-                || { n.copy_from_slice(&$from); black_box(b::$call(&mut n, $($arg),*)); },
-            )
-        };
+        ($name:expr, $from:expr, $call:ident ( $($arg:expr),* )) => {{
+            let ours = time(|| { m.copy_from_slice(&$from); black_box(c::$call(&mut m, $($arg),*)); });
+            let plain = time(|| { m.copy_from_slice(&$from); black_box(b::$call(&mut m, $($arg),*)); });
+            line($name, ours, plain)
+        }};
     }
     macro_rules! query {
-        ($name:expr, $call:ident ( $($arg:expr),* )) => {
-            line($name, || { black_box(c::$call(black_box(&full), $($arg),*)); }, || { black_box(b::$call(black_box(&full), $($arg),*)); })
-        };
+        ($name:expr, $call:ident ( $($arg:expr),* )) => {{
+            let ours = time(|| { black_box(c::$call(black_box(&full), $($arg),*)); });
+            let plain = time(|| { black_box(b::$call(black_box(&full), $($arg),*)); });
+            line($name, ours, plain)
+        }};
     }
     vec![
         both!("open", full, open(&settings)),
@@ -119,7 +116,11 @@ fn all_calls(containers: u64, policies: u64) -> Vec<Line> {
         query!("counts", counts()),
         query!("next finding, first", next_finding(0, 0, 0)),
         query!("next finding, last", next_finding(7, 255, 255)),
-        line("a whole walk", || { black_box(walk(&full, c::next_finding)); }, || { black_box(walk(&full, b::next_finding)); }),
+        line(
+            "a whole walk",
+            time(|| { black_box(walk(&full, c::next_finding)); }),
+            time(|| { black_box(walk(&full, b::next_finding)); }),
+        ),
         both!("rebuild", full, rebuild()),
         query!("audit", audit()),
     ]

@@ -1,84 +1,38 @@
 use native.Mathlib.Omega.{arith}
-use mathlib.Core.Path.{_≡_, sym, ap, _∙_}
-use Prim.Native.Nat.{_-_, _≤_}
-use Rattle.bitrow.specs.Bit.{bitAt}
-use Rattle.bitrow.specs.Set.{meet, under, insert, Lowest}
-use Rattle.bitrow.proofs.Sets.{meet-nothing, under-zero}
 use Rattle.bitrow.proofs.Rows.{row-bounded}
-use Rattle.bitrow.proofs.Searches.{lowest-at, lowest-nothing}
-use Rattle.formed.specs.Entries.{matching, trialSet}
-use Rattle.formed.proofs.Trials.{container-within, gather-take, gather-skip, gather-done}
+use Rattle.formed.proofs.Trials.{slots-within, trial-row}
 use borrow.Author.Needs.{needs}
 use Rattle.formed.proofs.entries.trial.Statement.{statement}
 use Rattle.formed.proofs.entries.trial.Tie as tie
 
-abbrev Inv-loop : tie.InvT-loop
-Inv-loop memory part candidates chosen₀ from₀ chosen from = (bitAt chosen ≡ meet (trialSet memory part (bitAt candidates)) (under from)) × (from ≤ 256)
+trial-word-requires : tie.Need-trial-word-requires
+trial-word-requires c κs = let p = c .before .pre in (p .1, slots-within _ (p .0) (p .2) 0 (omega arith))
 
-abbrev μ-loop : tie.MeasureT-loop
-μ-loop memory part candidates chosen₀ from₀ chosen from = 256 - from
+trial-word-requires-2 : tie.Need-trial-word-requires-2
+trial-word-requires-2 c κs = let p = c .before .before .pre in (p .1, slots-within _ (p .0) (p .2) 64 (omega arith))
 
--- what the search found is the lowest candidate left
-lowest : (f : tie.After-found Inv-loop μ-loop) → Lowest (bitAt (f .before .before .before .before .before .before .args .candidates)) (f .before .before .before .loop .from) 256 (f .found .given .0 .0)
-lowest f = lowest-at _ _ (sym (f .before .before .next-from .ensures) ∙ f .found .given .1)
+trial-word-requires-3 : tie.Need-trial-word-requires-3
+trial-word-requires-3 c κs = let p = c .before .before .before .pre in (p .1, slots-within _ (p .0) (p .2) 128 (omega arith))
 
-loop-holds : tie.Need-loop-holds Inv-loop μ-loop
-loop-holds c = (c .none .ensures ∙ sym (ap (meet _) under-zero ∙ meet-nothing _), omega arith)
+trial-word-requires-4 : tie.Need-trial-word-requires-4
+trial-word-requires-4 c κs = let p = c .before .before .before .before .pre in (p .1, slots-within _ (p .0) (p .2) 192 (omega arith))
 
-returns : tie.Need-returns Inv-loop μ-loop
-returns c = let l = c .before .before .before .loop in l .inv .0 ∙ gather-done _ _ (l .from) 256 (row-bounded _ (search needs)) (l .inv .1) (lowest-nothing _ _ (sym (c .before .before .next-from .ensures) ∙ c .enum-told .given .1))
-
-add-from : tie.Need-add-from Inv-loop μ-loop
-add-from c = let j = lowest (c .before) .below in search needs
-
-mul-matches : tie.Need-mul-matches Inv-loop μ-loop
-mul-matches c = let j = lowest (c .before) .below in search needs
-
-add-matches : tie.Need-add-matches Inv-loop μ-loop
-add-matches c = let j = lowest (c .before) .below in search needs
-
-matches-requires : tie.Need-matches-requires Inv-loop μ-loop
-matches-requires c κs = let p = c .before .before .before .before .before .before .before .pre in (p .1, container-within _ (p .0) (p .2) _ (lowest (c .before) .below))
-
-with-requires : tie.Need-with-requires Inv-loop μ-loop
-with-requires c κs = lowest (c .before .before .before) .below
-
-loop-less : tie.Need-loop-less Inv-loop μ-loop
-loop-less c = let j = lowest (c .before .before .before .before) in omega (arith, j .from, j .below)
-
-loop-again : tie.Need-loop-again Inv-loop μ-loop
-unfolding matching
-loop-again c =
-    let f = c .before .before .before .before in
-    (c .with .ensures ∙ ap (insert _) (f .before .before .before .loop .inv .0) ∙ gather-take _ _ _ 256 _ (lowest f) (sym (c .before .before .matches .ensures) ∙ c .before .if1 .taken), omega (arith, lowest f .below))
-
-loop-less-2 : tie.Need-loop-less-2 Inv-loop μ-loop
-loop-less-2 c = let j = lowest (c .before .before .before) in omega (arith, j .from, j .below)
-
-loop-again-2 : tie.Need-loop-again-2 Inv-loop μ-loop
-unfolding matching
-loop-again-2 c =
-    let f = c .before .before .before in
-    (f .before .before .before .loop .inv .0 ∙ gather-skip _ _ _ 256 _ (lowest f) (sym (c .before .matches .ensures) ∙ c .if1 .left), omega (arith, lowest f .below))
+returns : tie.Need-returns
+returns c = trial-row _ _ _ (row-bounded _ (search needs)) _ _ _ _ (c .before .before .before .trial-word .ensures) (c .before .before .trial-word2 .ensures) (c .before .trial-word3 .ensures) (c .trial-word4 .ensures)
 
 pub trial-spec : {M : Type 1} → statement M
 trial-spec =
     tie.close
     (tie.spec
-    Inv-loop
-    μ-loop
-    (λ c κs. search needs)
-    loop-holds
-    (λ c κs. search needs)
+    (λ c. search needs)
+    trial-word-requires
     (λ c. search needs)
     (λ c. search needs)
-    returns
-    add-from
-    mul-matches
-    add-matches
-    matches-requires
-    with-requires
-    loop-less
-    loop-again
-    loop-less-2
-    loop-again-2)
+    trial-word-requires-2
+    (λ c. search needs)
+    (λ c. search needs)
+    trial-word-requires-3
+    (λ c. search needs)
+    (λ c. search needs)
+    trial-word-requires-4
+    returns)
