@@ -2,7 +2,9 @@
 //! `bench --growth` prints how the times grow with the number of entries.
 
 use bihokura_tests::{baseline as b, bytes, c};
+use std::fs::File;
 use std::hint::black_box;
+use std::process::Command;
 use std::time::Instant;
 
 /// The lowest time of a call in nanoseconds over batches of the same work: what disturbs a batch only makes it slower.
@@ -126,17 +128,37 @@ fn all_calls(containers: u64, policies: u64) -> Vec<Line> {
     ]
 }
 
+/// The program lister on full tables, and the same in plain Rust: each a whole process.
+fn lister(containers: u64, policies: u64) -> Line {
+    let mut input = bytes::settings(1, 2, 9);
+    (0..containers).for_each(|i| input.extend(bytes::container(&labels(i))));
+    (0..policies).for_each(|q| input.extend(policy(q)));
+    let file = std::env::temp_dir().join(format!("bihokura-bench-{}.blocks", std::process::id()));
+    std::fs::write(&file, &input).unwrap();
+    let run = |program: &std::path::Path| {
+        let child = Command::new(program).stdin(File::open(&file).unwrap()).output();
+        child.unwrap_or_else(|e| panic!("{}: {e}", program.display())).stdout
+    };
+    let ours = std::path::Path::new(concat!(env!("CARGO_MANIFEST_DIR"), "/../target/bin/lister"));
+    let plain = std::env::current_exe().unwrap().with_file_name("plain_lister");
+    assert_eq!(run(ours), run(&plain));
+    let l = line("lister", time(|| { black_box(run(ours)); }), time(|| { black_box(run(&plain)); }));
+    std::fs::remove_file(&file).unwrap();
+    l
+}
+
 fn main() {
     if std::env::args().any(|a| a == "--growth") {
         println!("| containers | policies | call | register, µs | plain Rust, µs | ratio |\n|---|---|---|---|---|---|");
         for (x, y) in [(0, 0), (32, 16), (64, 32), (128, 64), (255, 127)] {
-            for l in all_calls(x, y) {
+            for l in all_calls(x, y).into_iter().chain([lister(x, y)]) {
                 println!("| {x} | {y} | {} | {:.2} | {:.2} | {:.2} |", l.name, l.ours / 1e3, l.plain / 1e3, l.ours / l.plain);
             }
         }
         return;
     }
-    let lines = all_calls(255, 127);
+    let mut lines = all_calls(255, 127);
+    lines.push(lister(255, 127));
     println!("| call, 255 containers and 127 policies | register, µs | plain Rust, µs | ratio |\n|---|---|---|---|");
     for l in &lines {
         println!("| {} | {:.2} | {:.2} | {:.2} |", l.name, l.ours / 1e3, l.plain / 1e3, l.ours / l.plain);
