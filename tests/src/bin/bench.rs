@@ -2,33 +2,39 @@
 //! `bench --growth` prints how the times grow with the number of entries.
 
 use bihokura_tests::{baseline as b, bytes, c};
+use std::cell::RefCell;
 use std::fs::File;
 use std::hint::black_box;
 use std::process::Command;
 use std::time::Instant;
 
-/// The lowest time of a call in nanoseconds over batches of the same work: what disturbs a batch only makes it slower.
-fn time(mut work: impl FnMut()) -> f64 {
+/// How often to repeat the work for a batch of a millisecond or more.
+fn batch(work: &mut impl FnMut()) -> u32 {
     let mut once = 1;
     loop {
         let began = Instant::now();
-        for _ in 0..once {
-            work();
-        }
-        if began.elapsed().as_micros() > 2000 {
-            break;
+        (0..once).for_each(|_| work());
+        if began.elapsed().as_micros() > 1000 {
+            return once;
         }
         once *= 2;
     }
-    (0..40)
-        .map(|_| {
-            let began = Instant::now();
-            for _ in 0..once {
-                work();
-            }
-            began.elapsed().as_nanos() as f64 / f64::from(once)
-        })
-        .fold(f64::INFINITY, f64::min)
+}
+
+/// The lowest times of a call on both sides in nanoseconds, over batches that take turns: what disturbs a batch only makes it
+/// slower, and a slow spell of the machine meets both.
+fn line(name: &str, mut ours: impl FnMut(), mut plain: impl FnMut()) -> Line {
+    let (n, k) = (batch(&mut ours), batch(&mut plain));
+    let mut l = Line { name: name.to_string(), ours: f64::INFINITY, plain: f64::INFINITY };
+    for _ in 0..60 {
+        let began = Instant::now();
+        (0..n).for_each(|_| ours());
+        let between = Instant::now();
+        (0..k).for_each(|_| plain());
+        l.ours = l.ours.min((between - began).as_nanos() as f64 / f64::from(n));
+        l.plain = l.plain.min(between.elapsed().as_nanos() as f64 / f64::from(k));
+    }
+    l
 }
 
 fn labels(i: u64) -> Vec<(u16, u16)> {
@@ -74,10 +80,6 @@ struct Line {
     plain: f64,
 }
 
-fn line(name: &str, ours: f64, plain: f64) -> Line {
-    Line { name: name.to_string(), ours, plain }
-}
-
 fn all_calls(containers: u64, policies: u64) -> Vec<Line> {
     let full = memory(containers, policies);
     let mut room = full.clone();
@@ -89,20 +91,18 @@ fn all_calls(containers: u64, policies: u64) -> Vec<Line> {
     let mut bad = container.clone();
     bad[509] = 1;
     bytes::seal(&mut bad);
-    let mut m = full.clone();
+    let m = RefCell::new(full.clone());
     // a change is timed with the copy of the memory that it starts from, on both sides into one buffer
     macro_rules! both {
         ($name:expr, $from:expr, $call:ident ( $($arg:expr),* )) => {{
-            let ours = time(|| { m.copy_from_slice(&$from); black_box(c::$call(&mut m, $($arg),*)); });
-            let plain = time(|| { m.copy_from_slice(&$from); black_box(b::$call(&mut m, $($arg),*)); });
-            line($name, ours, plain)
+            let fresh = || { let mut lent = m.borrow_mut(); lent.copy_from_slice(&$from); lent };
+            line($name, || { black_box(c::$call(&mut fresh(), $($arg),*)); }, || { black_box(b::$call(&mut fresh(), $($arg),*)); })
         }};
     }
     macro_rules! query {
         ($name:expr, $call:ident ( $($arg:expr),* )) => {{
-            let ours = time(|| { black_box(c::$call(black_box(&full), $($arg),*)); });
-            let plain = time(|| { black_box(b::$call(black_box(&full), $($arg),*)); });
-            line($name, ours, plain)
+            let lent = || black_box(&full);
+            line($name, || { black_box(c::$call(lent(), $($arg),*)); }, || { black_box(b::$call(lent(), $($arg),*)); })
         }};
     }
     vec![
@@ -120,8 +120,8 @@ fn all_calls(containers: u64, policies: u64) -> Vec<Line> {
         query!("next finding, last", next_finding(7, 255, 255)),
         line(
             "a whole walk",
-            time(|| { black_box(walk(&full, c::next_finding)); }),
-            time(|| { black_box(walk(&full, b::next_finding)); }),
+            || { black_box(walk(&full, c::next_finding)); },
+            || { black_box(walk(&full, b::next_finding)); },
         ),
         both!("rebuild", full, rebuild()),
         query!("audit", audit()),
@@ -142,7 +142,7 @@ fn lister(containers: u64, policies: u64) -> Line {
     let ours = std::path::Path::new(concat!(env!("CARGO_MANIFEST_DIR"), "/../target/bin/lister"));
     let plain = std::env::current_exe().unwrap().with_file_name("plain_lister");
     assert_eq!(run(ours), run(&plain));
-    let l = line("lister", time(|| { black_box(run(ours)); }), time(|| { black_box(run(&plain)); }));
+    let l = line("lister", || { black_box(run(ours)); }, || { black_box(run(&plain)); });
     std::fs::remove_file(&file).unwrap();
     l
 }
