@@ -5,7 +5,6 @@ ghost use lib.ListN.{length};
 use libc::STDOUT_FILENO;
 use model::ContainerSlot;
 use model::PolicySlot;
-use model::Refusal;
 use registry::Admitted;
 use registry::Audited;
 use registry::Carried;
@@ -17,24 +16,6 @@ use registry::Removed;
 use shape::Shape;
 
 mod shape;
-
-// A refusal's number.
-fn number(refusal: Refusal) -> u64 {
-    match refusal {
-        Refusal::MemorySize => 1,
-        Refusal::NotWellFormed => 2,
-        Refusal::BlockLength => 3,
-        Refusal::Checksum => 4,
-        Refusal::Kind => 5,
-        Refusal::Limit => 6,
-        Refusal::Range => 7,
-        Refusal::Order => 8,
-        Refusal::Unused => 9,
-        Refusal::BeyondTable => 10,
-        Refusal::FreeSlot => 11,
-        Refusal::TableFull => 12,
-    }
-}
 
 fn line(case: u64, refusal: u64, value: u64) {
     io::print_decimal(STDOUT_FILENO, case);
@@ -51,14 +32,14 @@ fn yes_or_no(says: bool) -> u64 {
 
 fn show_opened(case: u64, answer: Opened) {
     match answer {
-        Opened::Refused(why) => line(case, number(why), 0),
+        Opened::Refused(why) => line(case, registry::number(why), 0),
         Opened::Done => line(case, 0, 0),
     }
 }
 
 fn show_admitted(case: u64, answer: Admitted) {
     match answer {
-        Admitted::Refused(why) => line(case, number(why), 0),
+        Admitted::Refused(why) => line(case, registry::number(why), 0),
         Admitted::Container(slot) => line(case, 0, slot.0 as u64),
         Admitted::Policy(slot) => line(case, 0, slot.0 as u64),
     }
@@ -66,7 +47,7 @@ fn show_admitted(case: u64, answer: Admitted) {
 
 fn show_removed(case: u64, answer: Removed) {
     match answer {
-        Removed::Refused(why) => line(case, number(why), 0),
+        Removed::Refused(why) => line(case, registry::number(why), 0),
         Removed::Done => line(case, 0, 0),
     }
 }
@@ -94,14 +75,14 @@ fn remove_policy(memory: &mut [u64], case: u64, slot: usize) {
 
 fn reaches(memory: &[u64], case: u64, a: usize, b: usize) {
     match registry::reaches(memory, ContainerSlot(a), ContainerSlot(b)) {
-        Reached::Refused(why) => line(case, number(why), 0),
+        Reached::Refused(why) => line(case, registry::number(why), 0),
         Reached::Says(says) => line(case, 0, yes_or_no(says)),
     }
 }
 
 fn carries_user(memory: &[u64], case: u64, slot: usize, value: u64) {
     match registry::carries_user(memory, ContainerSlot(slot), value) {
-        Carried::Refused(why) => line(case, number(why), 0),
+        Carried::Refused(why) => line(case, registry::number(why), 0),
         Carried::Says(says) => line(case, 0, yes_or_no(says)),
     }
 }
@@ -109,7 +90,7 @@ fn carries_user(memory: &[u64], case: u64, slot: usize, value: u64) {
 // The counts, a line for each.
 fn count(memory: &[u64], case: u64) {
     match registry::counts(memory) {
-        Counted::Refused(why) => line(case, number(why), 0),
+        Counted::Refused(why) => line(case, registry::number(why), 0),
         Counted::Counts(containers, policies, pairs) => {
             line(case, 0, containers);
             line(case, 0, policies);
@@ -120,14 +101,14 @@ fn count(memory: &[u64], case: u64) {
 
 fn audit(memory: &[u64], case: u64) {
     match registry::audit(memory) {
-        Audited::Refused(why) => line(case, number(why), 0),
+        Audited::Refused(why) => line(case, registry::number(why), 0),
         Audited::Says(says) => line(case, 0, yes_or_no(says)),
     }
 }
 
 fn rebuild(memory: &mut [u64], case: u64) {
     match registry::rebuild(memory) {
-        Rebuilt::Refused(why) => line(case, number(why), 0),
+        Rebuilt::Refused(why) => line(case, registry::number(why), 0),
         Rebuilt::Done => line(case, 0, 0),
     }
 }

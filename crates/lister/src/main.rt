@@ -9,7 +9,6 @@ use findings::Cursor;
 use findings::Step;
 use libc::STDIN_FILENO;
 use model::Finding;
-use model::Refusal;
 use registry::Admitted;
 use registry::Counted;
 use registry::Opened;
@@ -20,24 +19,6 @@ mod text;
 struct State {
     blocks: u64,
     opened: bool,
-}
-
-// A refusal's number.
-fn number(refusal: Refusal) -> u64 {
-    match refusal {
-        Refusal::MemorySize => 1,
-        Refusal::NotWellFormed => 2,
-        Refusal::BlockLength => 3,
-        Refusal::Checksum => 4,
-        Refusal::Kind => 5,
-        Refusal::Limit => 6,
-        Refusal::Range => 7,
-        Refusal::Order => 8,
-        Refusal::Unused => 9,
-        Refusal::BeyondTable => 10,
-        Refusal::FreeSlot => 11,
-        Refusal::TableFull => 12,
-    }
 }
 
 // The number after n. The last one, which no run comes to, stays.
@@ -51,7 +32,7 @@ fn open(memory: &mut [u64], block: &[u8]) -> bool {
     let Opened::Refused(why) = answer else {
         return true;
     };
-    text::write_refusal(1, number(why));
+    text::write_refusal(1, registry::number(why));
     false
 }
 
@@ -59,7 +40,7 @@ fn open(memory: &mut [u64], block: &[u8]) -> bool {
 fn admit(memory: &mut [u64], block: &[u8], at: u64) {
     let answer = registry::admit(memory, block);
     if let Admitted::Refused(why) = answer {
-        text::write_refusal(at, number(why));
+        text::write_refusal(at, registry::number(why));
     }
 }
 
@@ -175,7 +156,7 @@ fn write_findings(memory: &[u64], out: &mut [u8], from: usize)
     text::write(out, at);
 }
 
-// Writes the counts and the findings. The memory is tested once, and not for each finding.
+// Writes the counts and the findings. The memory is tested for each of the two, and not for each finding.
 fn write_report(memory: &[u64], out: &mut [u8])
     requires { ⌜ 65536 ≡ length (now out) ⌝ }
 {

@@ -1,7 +1,8 @@
 // The exported calls.
 ghost use mathlib.Core.Path.{_≡_};
 ghost use mathlib.Core.Bool.{true};
-ghost use Rattle.model.specs.Calls.{openWith, admit, removeContainer, removePolicy, askReaches, askUser, nextFinding, counts, rebuild, audit};
+ghost use Prim.Native.Nat.{_≤_};
+ghost use Rattle.model.specs.Calls.{openWith, admit, removeContainer, removePolicy, askReaches, askUser, nextFinding, counts, rebuild, audit, refusalNumber};
 ghost use Rattle.findings.specs.Steps.{placeOf};
 ghost use Rattle.store.specs.Layout.{memoryWords};
 ghost use Rattle.formed.specs.Registry.{modelIn, wellFormed};
@@ -79,6 +80,26 @@ pub enum Rebuilt {
 pub enum Audited {
     Refused(Refusal),
     Says(bool),
+}
+
+// A refusal's number.
+pub fn number(refusal: Refusal) -> u64
+    ensures { λ r. ⌜ (r ≡ refusalNumber refusal) × (r ≤ 12) ⌝ }
+{
+    match refusal {
+        Refusal::MemorySize => 1,
+        Refusal::NotWellFormed => 2,
+        Refusal::BlockLength => 3,
+        Refusal::Checksum => 4,
+        Refusal::Kind => 5,
+        Refusal::Limit => 6,
+        Refusal::Range => 7,
+        Refusal::Order => 8,
+        Refusal::Unused => 9,
+        Refusal::BeyondTable => 10,
+        Refusal::FreeSlot => 11,
+        Refusal::TableFull => 12,
+    }
 }
 
 // ---- the tests of refusals

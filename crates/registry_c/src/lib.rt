@@ -1,7 +1,6 @@
 // The calls for C, Rust and others: numbers and slices only. An answer is one number: the refusal's number in the top byte, 0 where
 // the call was accepted, and below it the slot, 0 or 1, the finding, or the counts.
 ghost use mathlib.Core.Path.{_≡_};
-ghost use Prim.Native.Nat.{_≤_};
 ghost use Rattle.model.specs.Calls.{openWith, admit, removeContainer, removePolicy, askReaches, askUser, nextFinding, counts, rebuild, audit, refusalNumber};
 ghost use Rattle.store.specs.Layout.{memoryWords};
 ghost use Rattle.registry_c.specs.Codes.{refusalCode, findingCode, truthCode, codedStep};
@@ -22,29 +21,10 @@ use registry::Removed;
 
 // ---- the numbers
 
-fn number(refusal: Refusal) -> u64
-    ensures { λ r. ⌜ (r ≡ refusalNumber refusal) × (r ≤ 12) ⌝ }
-{
-    match refusal {
-        Refusal::MemorySize => 1,
-        Refusal::NotWellFormed => 2,
-        Refusal::BlockLength => 3,
-        Refusal::Checksum => 4,
-        Refusal::Kind => 5,
-        Refusal::Limit => 6,
-        Refusal::Range => 7,
-        Refusal::Order => 8,
-        Refusal::Unused => 9,
-        Refusal::BeyondTable => 10,
-        Refusal::FreeSlot => 11,
-        Refusal::TableFull => 12,
-    }
-}
-
 fn refused(refusal: Refusal) -> u64
     ensures { λ r. ⌜ r ≡ refusalCode (refusalNumber refusal) ⌝ }
 {
-    number(refusal) * 72057594037927936
+    registry::number(refusal) * 72057594037927936
 }
 
 fn truth(says: bool) -> u64
