@@ -3,46 +3,46 @@ use mathlib.Core.Path.{_≡_, refl, sym, ap, ap₂, _∙_, subst}
 use mathlib.Core.Bool.{Bool, true, false, _&&_, _||_, cond, and-true}
 use mathlib.Core.List.{List, [], _∷_, map}
 use mathlib.Core.Option.{Option, none, some}
-use Prim.Native.Nat.{ℕ, zero, suc, _+_, _*_, _-_, _/_, _%_, _^_, _<_, _≤_}
-use native.Mathlib.Nat.{not-suc-le-zero, le-of-suc-le-suc, sub-zero}
+use Prim.Native.Nat.{ℕ, zero, suc, _+_, _-_, _/_, _%_, _<_, _≤_}
+use native.Mathlib.Nat.{sub-zero}
 use native.Mathlib.Decide.{ℕ-discrete}
 use native.Mathlib.Omega.{arith}
 use lib.Dec.{eqb, ltb}
-use lib.ListN.{length, getD, set, take, replicate, length-set, length-map, length-replicate, getD-replicate}
+use lib.ListN.{length, getD, set, replicate, length-set, length-replicate, getD-replicate}
 use lib.Seq.{getD-set-same, getD-set-other, set-getD}
-use borrow.Author.Tests.{lt-ltb, le-ltb, eq-eqb, ne-eqb}
+use borrow.Author.Tests.{lt-ltb, le-ltb}
 use Rattle.bitrow.specs.Bit.{bitAt}
 use Rattle.bitrow.specs.Set.{nothing, under, insert, meet}
 use Rattle.bitrow.proofs.Sets.{nothing-at, under-in, under-zero, meet-at, meet-nothing, meet-take, meet-skip}
 use Rattle.bitrow.proofs.Sets.{at as point}
 use Rattle.block.specs.declared.Labels.{Labels}
-use Rattle.block.specs.Entry.{Label, Container, Policy, Settings, container}
+use Rattle.block.specs.Entry.{Container, Policy, Settings, container}
 use Rattle.block.specs.Reader.{directionOf}
-use Rattle.block.specs.Written.{inRange, allInRange, validEntry}
+use Rattle.block.specs.Written.{validEntry}
 use Rattle.block.specs.Reading.{word, padded, packed}
 use Rattle.model.specs.Table.{Table, on, at, stands}
 use Rattle.model.specs.Model.{containerSlots, policySlots, Model, Bits, empty, withContainer, matrixBit, selectedBit, allowedBit, computedBits}
 use Rattle.model.specs.Registry.{Registry, setWhere, changeContainer, opened}
-use Rattle.store.specs.Layout.{containerStart, selectedRow, allowedRow, Whole, wordAt}
+use Rattle.store.specs.Layout.{containerStart, selectedRow, allowedRow, Whole}
 use Rattle.store.specs.Contents.{Contents, Holds}
 use Rattle.store.specs.Memory.{slotSet, withSlot, withRow, withColumn, changed, cleared, blank}
 use Rattle.store.proofs.Cases.{by-eqb, by-ltb}
 use Rattle.store.proofs.Carried.{SameContents, holds-as, holds-by, slot-in, slot-out, slot-bits, holds-slot, row-words, row-out, holds-row, holds-cleared}
 use Rattle.store.proofs.Columns.{column-in, column-out, column-words, holds-column}
-use Rattle.formed.specs.Words.{labelWord, partWord, labelIn, settingsWord, containerWord, policyWord}
+use Rattle.formed.specs.Words.{labelWord, partWord, settingsWord, containerWord, policyWord}
 use Rattle.formed.specs.Registry.{modelIn, registryIn, entryWord, storedBit, contentsOf, image, freeOr, Acceptable, wellFormed}
 use Rattle.formed.proofs.Tests.{both}
-use Rattle.formed.proofs.Parts.{label-back, labels-few, labels-in-range}
+use Rattle.formed.proofs.Parts.{labels-few}
 use Rattle.formed.proofs.Slots.{valid-container}
 use Rattle.formed.proofs.Back.{registry-image, written}
 use Rattle.formed.proofs.Acceptable.{containers-size}
 use Rattle.formed.proofs.Formed.{formed-memory, formed-holds, acceptable-image}
-use Rattle.reach.specs.Lets.{bits, line}
-use Rattle.reach.specs.Sets.{SetsOf, directionSet, opposite, lineBit}
-use Rattle.reach.proofs.Model.{line-sets, line-row, line-column}
-use Rattle.reach.proofs.Candidates.{policies-length}
+use Rattle.reach.specs.Lets.{bits}
+use Rattle.reach.specs.Sets.{SetsOf, lineBit}
+use Rattle.reach.proofs.Model.{line-row, line-column}
 use Rattle.changes.specs.Labels.{unpacked}
 use Rattle.changes.proofs.LabelLaws.{padded-at, unpacked-back}
+use Rattle.changes.proofs.StoredLaws.{Fit, stored-matrix, stored-selected, stored-allowed, by-table}
 use Rattle.changes.specs.OneContainer.{SaysContainer, slotWords, bitsSet, holdingSet, refreshed}
 
 -- ---- labels as a count and words
@@ -188,44 +188,38 @@ module _ (r : Registry) (c : ℕ) (hc : c < containerSlots) (t : Bits) {row colu
   k4 = withColumn k3 257 2 128 c (bitAt allowed)
 
   matrix-new : (x y : ℕ) → x < containerSlots → y < containerSlots → k4 .bits x y ≡ new .matrix x y
-  unfolding changed withRow contentsOf storedBit
+  unfolding changed withRow contentsOf
   matrix-new x y hx hy =
       point (column-out k3 257 2 128 c (bitAt allowed) x (λ i h e. omega arith)
       ∙ column-out k2 256 2 128 c (bitAt selected) x (λ i h e. omega arith)
       ∙ column-in k1 0 1 256 c (bitAt column) x x (omega arith) hx (omega arith)) y
       ∙ ap (cond (eqb y c) (bitAt column x)) (by-eqb (λ s. cond s (bitAt row) (k0 .bits x) y ≡ cond s (bitAt row y) (k0 .bits x y)) x c (λ _. refl) (λ _. refl))
-      ∙ crossed c (t .matrix) (r .bits .matrix) x y (bitAt column x) (bitAt row y) (k0 .bits x y) (g .column x hx) (g .row y hy) (rw (lt-ltb x 256 hx))
+      ∙ crossed c (t .matrix) (r .bits .matrix) x y (bitAt column x) (bitAt row y) (k0 .bits x y) (g .column x hx) (g .row y hy) (point (stored-matrix (r .bits) x hx) y)
 
   selected-new : (q y : ℕ) → q < policySlots → k4 .bits (selectedRow q) y ≡ new .selected q y
-  unfolding changed contentsOf storedBit
+  unfolding changed contentsOf
   selected-new q y hq =
       let x = selectedRow q in
-      let e : (256 + 2 * q - 256) / 2 ≡ q = omega arith in
       point (column-out k3 257 2 128 c (bitAt allowed) x (λ i h e. omega arith) ∙ column-in k2 256 2 128 c (bitAt selected) x q (omega arith) hq refl) y
       ∙ ap (cond (eqb y c) (bitAt selected q)) (point (column-out k1 0 1 256 c (bitAt column) x (λ i h e. omega arith) ∙ row-out k0 c (bitAt row) x (λ e. omega arith)) y)
-      ∙ crossing c (t .selected) (r .bits .selected) q y (bitAt selected q) (k0 .bits x y) (g .selected q hq)
-      (rw (le-ltb (256 + 2 * q) 256 (omega arith), eq-eqb ((256 + 2 * q) % 2) 0 (omega arith), e))
+      ∙ crossing c (t .selected) (r .bits .selected) q y (bitAt selected q) (k0 .bits x y) (g .selected q hq) (point (stored-selected (r .bits) q) y)
 
   allowed-new : (q y : ℕ) → q < policySlots → k4 .bits (allowedRow q) y ≡ new .allowed q y
-  unfolding changed contentsOf storedBit
+  unfolding changed contentsOf
   allowed-new q y hq =
       let x = allowedRow q in
-      let e : (257 + 2 * q - 256) / 2 ≡ q = omega arith in
       point (column-in k3 257 2 128 c (bitAt allowed) x q (omega arith) hq refl) y
       ∙ ap (cond (eqb y c) (bitAt allowed q)) (point (column-out k2 256 2 128 c (bitAt selected) x (λ i h e. omega arith)
       ∙ column-out k1 0 1 256 c (bitAt column) x (λ i h e. omega arith) ∙ row-out k0 c (bitAt row) x (λ e. omega arith)) y)
-      ∙ crossing c (t .allowed) (r .bits .allowed) q y (bitAt allowed q) (k0 .bits x y) (g .allowed q hq)
-      (rw (le-ltb (257 + 2 * q) 256 (omega arith), ne-eqb ((257 + 2 * q) % 2) 0 (λ z. omega arith), e))
+      ∙ crossing c (t .allowed) (r .bits .allowed) q y (bitAt allowed q) (k0 .bits x y) (g .allowed q hq) (point (stored-allowed (r .bits) q) y)
 
   stored-new : (x y : ℕ) → x < 512 → y < 256 → k4 .bits x y ≡ storedBit new x y
-  unfolding storedBit
   stored-new x y hx hy =
       let q = (x - 256) / 2 in
-      by-ltb (λ s. k4 .bits x y ≡ cond s (new .matrix x y) (cond (eqb (x % 2) 0) (new .selected q y) (new .allowed q y))) x 256
+      by-table (λ t. k4 .bits x y ≡ t) new x y
       (λ l. matrix-new x y l hy)
-      (λ l. by-eqb (λ s. k4 .bits x y ≡ cond s (new .selected q y) (new .allowed q y)) (x % 2) 0
-      (λ e. let d : x ≡ selectedRow q = omega arith in ap (λ (z : ℕ). k4 .bits z y) d ∙ selected-new q y (omega arith))
-      (λ e. let d : x ≡ allowedRow q = omega arith in ap (λ (z : ℕ). k4 .bits z y) d ∙ allowed-new q y (omega arith)))
+      (λ l e. let d : x ≡ selectedRow q = omega arith in ap (λ (z : ℕ). k4 .bits z y) d ∙ selected-new q y (omega arith))
+      (λ l e. let d : x ≡ allowedRow q = omega arith in ap (λ (z : ℕ). k4 .bits z y) d ∙ allowed-new q y (omega arith))
 
   words-new : k4 .words ≡ k0 .words
   words-new =
@@ -265,9 +259,6 @@ module _ (p : Model) (c : ℕ) (free : at (p .containers) c ≡ none) (clear : L
     selected = λ q h. rw free (none-at q ∙ sym (on-false (at (p .policies) q)));
     allowed = λ q h. rw free (none-at q ∙ sym (on-false (at (p .policies) q)));
   }
-
-abbrev pub Fit : List ℕ → Type 0
-Fit m = (k : ℕ) → wordAt m k < 2 ^ 64
 
 module _ (m : List ℕ) (ok : wellFormed m ≡ true) (c : ℕ) (hc : c < containerSlots) where
   abbrev held : Registry
@@ -405,20 +396,6 @@ holding-at n s c q h = meet-at (λ i. s i c) (under n) q ∙ ap (λ (t : Bool). 
 
 -- ---- the rows that the rules give of a model's sets
 
-other-direction : (d : ℕ) → 1 ≤ d → d ≤ 2 → directionOf (3 - d) ≡ opposite (directionOf d)
-unfolding directionOf
-other-direction zero a b = absurd (omega arith)
-other-direction (suc zero) a b = refl
-other-direction (suc (suc zero)) a b = refl
-other-direction (suc (suc (suc d))) a b = absurd (omega arith)
-
--- what `row_by_rules` gives of a memory's sets
-pub line-done : (m : List ℕ) {sel alw : List (List ℕ)} → SetsOf (modelIn m) sel alw → (d : ℕ) → 1 ≤ d → d ≤ 2 → {r s w v : ℕ → Bool}
-    → s ≡ stands (modelIn m .containers) → w ≡ directionSet (modelIn m) (directionOf d) → v ≡ directionSet (modelIn m) (directionOf (3 - d))
-    → (c : ℕ) → r ≡ line policySlots s w v (bits sel) (bits alw) c → r ≡ lineBit (modelIn m) (directionOf d) c
-line-done m sets d low high e f g c q =
-    q ∙ line-sets (modelIn m) (policies-length m) (sets .selected) (sets .allowed) (directionOf d) e f (g ∙ ap (directionSet (modelIn m)) (other-direction d low high)) c
-
 module _ (p : Model) (c : ℕ) {row column selecting allowing : List ℕ} {sel alw : List (List ℕ)} where
   pub bits-by-rules : bitAt row ≡ lineBit p (directionOf 2) c → bitAt column ≡ lineBit p (directionOf 1) c → SetsOf p sel alw
       → bitAt selecting ≡ holdingSet policySlots (bits sel) c → bitAt allowing ≡ holdingSet policySlots (bits alw) c → BitsOf c (computedBits p) row column selecting allowing
@@ -462,10 +439,8 @@ module _ (s : Settings) where
       (λ l. slot-out blank 0 3 (settingsWords s) k (λ a b. omega arith) ∙ by-ltb (λ t. 0 ≡ cond t x y) k 2307 (λ _. sym ex) (λ _. sym ey))
 
   begun-bit : (x y : ℕ) → begun .bits x y ≡ storedBit (opened s .bits) x y
-  unfolding storedBit opened blank
-  begun-bit x y =
-      ap (λ (f : ℕ → ℕ → Bool). f x y) (slot-bits blank 0 3 (settingsWords s))
-      ∙ by-ltb (λ t. false ≡ cond t false (cond (eqb (x % 2) 0) false false)) x 256 (λ _. refl) (λ _. by-eqb (λ t. false ≡ cond t false false) (x % 2) 0 (λ _. refl) (λ _. refl))
+  unfolding opened blank
+  begun-bit x y = ap (λ (f : ℕ → ℕ → Bool). f x y) (slot-bits blank 0 3 (settingsWords s)) ∙ by-table (λ t. false ≡ t) (opened s .bits) x y (λ _. refl) (λ _ _. refl) (λ _ _. refl)
 
   begun-same : SameContents begun (contentsOf (opened s))
   unfolding contentsOf opened

@@ -4,11 +4,11 @@ use mathlib.Core.Path.{_≡_, refl, sym, ap, ap₂, _∙_, subst, fun-ext}
 use mathlib.Core.Bool.{Bool, true, false, not, _&&_, _||_, cond, and-true, and-false, or-false}
 use mathlib.Core.List.{List, [], _∷_, map}
 use mathlib.Core.Option.{Option, none, some}
-use Prim.Native.Nat.{ℕ, zero, suc, _+_, _*_, _-_, _/_, _%_, _^_, _<_, _≤_}
+use Prim.Native.Nat.{ℕ, zero, suc, _+_, _-_, _/_, _%_, _<_, _≤_}
 use native.Mathlib.Decide.{ℕ-discrete, decLe, decLt}
 use native.Mathlib.Omega.{arith}
 use lib.Dec.{eqb, ltb}
-use lib.ListN.{length, getD, set, take, replicate, length-set, getD-replicate}
+use lib.ListN.{length, getD, set, replicate, length-set, getD-replicate}
 use lib.Seq.{getD-set-same, getD-set-other}
 use borrow.Author.Tests.{lt-ltb, le-ltb, eq-eqb, ne-eqb}
 use Rattle.bitrow.specs.Bit.{bitAt}
@@ -18,61 +18,34 @@ use Rattle.bitrow.proofs.Tests.{hasSome-absent}
 use Rattle.block.specs.declared.Labels.{Labels}
 use Rattle.block.specs.Entry.{Label, Container, Direction, ingress, egress, Policy, Settings, policy}
 use Rattle.block.specs.Reader.{directionOf}
-use Rattle.block.specs.Reading.{word, padded, packed}
-use Rattle.block.specs.Written.{directionNumber, inRange, allInRange, validLabels, validEntry}
+use Rattle.block.specs.Reading.{word, packed}
+use Rattle.block.specs.Written.{directionNumber, validLabels, validEntry}
 use Rattle.model.specs.Table.{on, at, stands}
 use Rattle.model.specs.Rules.{sameDirection, selects, allows}
-use Rattle.model.specs.Model.{Model, withPolicy, Bits, matrixBit, selectedBit, allowedBit, computedBits}
+use Rattle.model.specs.Model.{Model, withPolicy, matrixBit, selectedBit, allowedBit, computedBits}
 use Rattle.model.specs.Registry.{Registry, setWhere, touches, touched, changePolicy}
 use Rattle.store.specs.Layout.{policyStart, selectedRow, allowedRow, wordAt, rowAt}
 use Rattle.store.specs.Contents.{Contents, Holds}
 use Rattle.store.specs.Memory.{slotSet, rowSet, withSlot, withRow}
 use Rattle.store.proofs.Cases.{by-ltb, by-eqb}
 use Rattle.store.proofs.Carried.{SameContents, holds-as, holds-by, row-bit, slot-in, slot-out, holds-slot, holds-row}
-use Rattle.formed.specs.Words.{labelWord, partWord, settingsWord, containerWord, policyWord, labelIn, policyAt, policyIn}
+use Rattle.formed.specs.Words.{labelWord, partWord, settingsWord, containerWord, policyWord, policyAt, policyIn}
 use Rattle.formed.specs.Registry.{modelIn, registryIn, entryWord, storedBit, contentsOf, image, freeOr, Acceptable, wellFormed}
-use Rattle.formed.proofs.Tests.{clash, both}
-use Rattle.formed.proofs.Parts.{label-back, labels-few, labels-in-range}
+use Rattle.formed.proofs.Tests.{clash}
+use Rattle.formed.proofs.Parts.{labels-few}
 use Rattle.formed.proofs.Slots.{valid-policy, direction-back, first-word}
 use Rattle.formed.proofs.Reading.{policy-slot, formed-policy, formed-fits}
 use Rattle.formed.proofs.Trials.{policy-at}
 use Rattle.formed.proofs.Back.{written, registry-image}
 use Rattle.formed.proofs.Formed.{formed-memory, formed-holds, acceptable-image}
-use Rattle.reach.specs.Lets.{bits, line}
-use Rattle.reach.specs.Sets.{RowsAre, directionSet}
-use Rattle.reach.proofs.Model.{row-law}
+use Rattle.reach.specs.Lets.{bits}
 use Rattle.reach.proofs.Candidates.{policies-length}
 use Rattle.changes.specs.Labels.{unpacked}
 use Rattle.changes.proofs.LabelLaws.{padded-at, unpacked-back}
+use Rattle.changes.proofs.StoredLaws.{Fit, ltb-step, stored-matrix, stored-selected, stored-allowed, stored-cong}
 use Rattle.changes.specs.PolicyChange.{policyOf, PolicyWords, SaysPolicy, SlotWords, Admissible, placed, settled, Settles, resetWhere, pairs, masked, RowReset, selection, ResetsFor}
 
--- ---- stored bits, by their three tables
-
-stored-cong : (s t : Bits) (x y : ℕ) → (x < 256 → s .matrix x y ≡ t .matrix x y)
-    → (256 ≤ x → x % 2 ≡ 0 → s .selected ((x - 256) / 2) y ≡ t .selected ((x - 256) / 2) y)
-    → (256 ≤ x → (x % 2 ≡ 0 → ⊥) → s .allowed ((x - 256) / 2) y ≡ t .allowed ((x - 256) / 2) y) → storedBit s x y ≡ storedBit t x y
-unfolding storedBit
-stored-cong s t x y f g h =
-    let q = (x - 256) / 2 in
-    by-ltb (λ u. cond u (s .matrix x y) (cond (eqb (x % 2) 0) (s .selected q y) (s .allowed q y)) ≡ cond u (t .matrix x y) (cond (eqb (x % 2) 0) (t .selected q y) (t .allowed q y))) x 256
-    (λ l. f l)
-    (λ l. by-eqb (λ u. cond u (s .selected q y) (s .allowed q y) ≡ cond u (t .selected q y) (t .allowed q y)) (x % 2) 0 (λ e. g l e) (λ e. h l e))
-
-stored-matrix : (b : Bits) (a y : ℕ) → a < 256 → storedBit b a y ≡ b .matrix a y
-unfolding storedBit
-stored-matrix b a y h = rw (lt-ltb a 256 h)
-
-stored-selected : (b : Bits) (q y : ℕ) → storedBit b (selectedRow q) y ≡ b .selected q y
-unfolding storedBit
-stored-selected b q y =
-    let e : (256 + 2 * q - 256) / 2 ≡ q = omega arith in
-    rw (le-ltb (256 + 2 * q) 256 (omega arith), eq-eqb ((256 + 2 * q) % 2) 0 (omega arith), e)
-
-stored-allowed : (b : Bits) (q y : ℕ) → storedBit b (allowedRow q) y ≡ b .allowed q y
-unfolding storedBit
-stored-allowed b q y =
-    let e : (257 + 2 * q - 256) / 2 ≡ q = omega arith in
-    rw (le-ltb (257 + 2 * q) 256 (omega arith), ne-eqb ((257 + 2 * q) % 2) 0 (λ z. omega arith), e)
+-- ---- rows
 
 -- a row made s of a registry's memory is the change of its bits that makes the row s and leaves the others
 row-same : (r r′ : Registry) (k : ℕ) (s : ℕ → Bool) → r .model ≡ r′ .model → ((y : ℕ) → storedBit (r′ .bits) k y ≡ s y)
@@ -158,7 +131,7 @@ module _ (r : Registry) (q : ℕ) (x : Option Policy) (hq : q < 128) where
         let b = placed r q x s a .bits in
         let b′ = placed r q x (bitAt row) a .bits in
         holds-as (holds-row h (selectedRow q) row (omega arith)) _ (row-same (placed r q x s a) (placed r q x (bitAt row) a) (selectedRow q) (bitAt row) refl
-        (λ y. stored-selected b′ q y ∙ made-here q (bitAt row) (r .bits .selected) y)
+        (λ y. point (stored-selected b′ q) y ∙ made-here q (bitAt row) (r .bits .selected) y)
         (λ i y n. stored-cong b b′ i y (λ l. refl) (λ l e. made-other q s (bitAt row) (r .bits .selected) ((i - 256) / 2) y (λ z. n (omega arith))) (λ l e. refl)))
 
     placed-allowed : Holds (rowSet m (allowedRow q) row) (contentsOf (placed r q x s (bitAt row)))
@@ -167,7 +140,7 @@ module _ (r : Registry) (q : ℕ) (x : Option Policy) (hq : q < 128) where
         let b = placed r q x s a .bits in
         let b′ = placed r q x s (bitAt row) .bits in
         holds-as (holds-row h (allowedRow q) row (omega arith)) _ (row-same (placed r q x s a) (placed r q x s (bitAt row)) (allowedRow q) (bitAt row) refl
-        (λ y. stored-allowed b′ q y ∙ made-here q (bitAt row) (r .bits .allowed) y)
+        (λ y. point (stored-allowed b′ q) y ∙ made-here q (bitAt row) (r .bits .allowed) y)
         (λ i y n. stored-cong b b′ i y (λ l. refl) (λ l e. refl) (λ l e. made-other q a (bitAt row) (r .bits .allowed) ((i - 256) / 2) y (λ z. n (omega arith)))))
 
   -- bits of a policy's set are of a slot that stands and of standing containers
@@ -226,9 +199,6 @@ module _ (m : Model) (q : ℕ) (x : Option Policy) (e : at (m .policies) q ≡ x
   allowed-owned : (c : ℕ) → allowedBit m q c ≡ true → (on (λ p. true) x && stands (m .containers) c) ≡ true
   unfolding allowedBit
   allowed-owned c b = rule-owned (λ p y. allows p y) c (ap (on (λ p. on (λ y. allows p y) (at (m .containers) c))) (sym e) ∙ b)
-
-abbrev Fit : List ℕ → Type 0
-Fit m = (k : ℕ) → wordAt m k < 2 ^ 64
 
 -- the memory of an acceptable registry, as a write left it
 module _ {r : Registry} {m : List ℕ} (ok : Acceptable r) (e : m ≡ image r) where
@@ -325,9 +295,6 @@ module _ (m row : List ℕ) (a : ℕ) (mask rule : ℕ → Bool) (ha : a < 256) 
 abbrev below : ℕ → (ℕ → Bool) → (ℕ → Bool) → ℕ → ℕ → Bool
 below n s t a b = ltb a n && pairs s t a b
 
-ltb-step : (x n : ℕ) → (x ≡ n → ⊥) → ltb x n ≡ ltb x (n + 1)
-ltb-step x n d = by-ltb (λ u. u ≡ ltb x (n + 1)) x n (λ l. sym (lt-ltb x (n + 1) (omega arith))) (λ l. sym (le-ltb x (n + 1) (omega arith)))
-
 -- the first n rows are reset
 pub record Resets (r : Registry) (s t : ℕ → Bool) (m : List ℕ) (n : ℕ) : Type 0 where
   pub most : n ≤ 256
@@ -384,8 +351,8 @@ module _ (r : Registry) (s t : ℕ → Bool) where
     taken-here : s n ≡ true → (y : ℕ) → storedBit (after .bits) n y ≡ masked t (matrixBit (r .model) n) (contentsOf before .bits n) y
     unfolding contentsOf resetWhere setWhere masked pairs
     taken-here f y =
-        stored-matrix (after .bits) n y hn ∙ ap₂ (λ (u v : Bool). bit r (u && (v && t y)) n y) (lt-ltb n (n + 1) (omega arith)) f
-        ∙ sym (ap (λ (o : Bool). cond (t y) (matrixBit (r .model) n y) o) (stored-matrix (before .bits) n y hn ∙ ap (λ (u : Bool). bit r (u && (s n && t y)) n y) (le-ltb n n (omega arith))))
+        point (stored-matrix (after .bits) n hn) y ∙ ap₂ (λ (u v : Bool). bit r (u && (v && t y)) n y) (lt-ltb n (n + 1) (omega arith)) f
+        ∙ sym (ap (λ (o : Bool). cond (t y) (matrixBit (r .model) n y) o) (point (stored-matrix (before .bits) n hn) y ∙ ap (λ (u : Bool). bit r (u && (s n && t y)) n y) (le-ltb n n (omega arith))))
 
     pub resets-take : s n ≡ true → {m′ : List ℕ} {rule : ℕ → Bool} → RowReset m m′ n t rule → rule ≡ matrixBit (r .model) n → Fit m′ → Resets r s t m′ (n + 1)
     unfolding resetWhere setWhere
@@ -400,21 +367,6 @@ module _ (r : Registry) (s t : ℕ → Bool) where
   resets-all {m} {n} g h =
       written (resetWhere r (pairs s t)) m (holds-as (g .held) _ (named-same r (below n s t) (pairs s t)
       (λ x y l. ap (λ (u : Bool). u && pairs s t x y) (lt-ltb x n (omega arith))))) (g .fit)
-
--- ---- the rows by the rules of a memory's entries
-
-pub record Sources (m standing out back : List ℕ) (selected allowed : List (List ℕ)) : Type 0 where
-  pub stand : bitAt standing ≡ stands (modelIn m .containers)
-  pub forth : bitAt out ≡ directionSet (modelIn m) (directionOf 2)
-  pub backwards : bitAt back ≡ directionSet (modelIn m) (directionOf 1)
-  pub select : RowsAre 128 (selectedBit (modelIn m)) selected
-  pub allow : RowsAre 128 (allowedBit (modelIn m)) allowed
-
-pub rule-row : (m standing out back : List ℕ) {selected allowed : List (List ℕ)} → Sources m standing out back selected allowed
-    → (a : ℕ) → line 128 (bitAt standing) (bitAt out) (bitAt back) (bits selected) (bits allowed) a ≡ matrixBit (registryIn m .model) a
-unfolding directionOf registryIn
-rule-row m standing out back f a =
-    row-law (modelIn m) (policies-length m) (record { selected = f .select; allowed = f .allow }) (f .stand) (f .forth) (f .backwards) a
 
 -- ---- the pairs that a policy touches
 

@@ -3,154 +3,126 @@ use mathlib.Core.Path.{_≡_, refl, sym, ap, ap₂, _∙_, subst, fun-ext}
 use mathlib.Core.Bool.{Bool, true, false, _&&_, cond}
 use mathlib.Core.List.{List, [], _∷_}
 use mathlib.Core.Option.{none, some}
-use Prim.Native.Nat.{ℕ, zero, suc, _+_, _*_, _-_, _/_, _%_, _^_, _<_, _≤_}
+use Prim.Native.Nat.{ℕ, zero, suc, _+_, _*_, _-_, _/_, _<_, _≤_}
 use native.Mathlib.Nat.{add-zero, zero-add, add-suc, suc-add}
 use native.Mathlib.Numerals.{add-one, one-add}
 use native.Mathlib.Omega.{arith}
-use lib.Dec.{eqb, ltb}
-use lib.ListN.{length, getD}
-use lib.Seq.{length-sets}
-use borrow.Author.Tests.{lt-ltb, le-ltb, eq-eqb, ne-eqb}
+use lib.Dec.{ltb}
+use lib.ListN.{length}
+use borrow.Author.Tests.{lt-ltb, le-ltb}
 use Rattle.bitrow.specs.Bit.{bitAt}
 use Rattle.bitrow.specs.Set.{nothing, one, equal, size}
 use Rattle.bitrow.proofs.Sets.{at as point}
 use Rattle.bitrow.proofs.Sizes.{size-zero, size-low, size-le, size-cong, size-nothing}
 use Rattle.bitrow.proofs.Tests.{same-test, equal-all, equal-in}
-use Rattle.block.specs.Entry.{ingress, egress}
+use Rattle.block.specs.Entry.{egress}
 use Rattle.model.specs.Table.{Table, on, at, stands, count, upFrom, below, standingFrom, standing}
 use Rattle.model.specs.Model.{containerSlots, policySlots, Model, Bits, computedBits}
-use Rattle.model.specs.Registry.{computed, rebuilt, consistent, Agree, FollowsRules}
+use Rattle.model.specs.Registry.{Registry, computed, rebuilt, consistent, Agree, FollowsRules}
 use Rattle.model.specs.Findings.{containersOf, policiesOf, pairsIn, pairs}
 use Rattle.model.proofs.Consistent.{consistent-exactly}
-use Rattle.store.specs.Layout.{wordAt, rowAt, rowBit, rowStart}
+use Rattle.store.specs.Layout.{rowAt, rowBit}
 use Rattle.store.specs.Contents.{Contents, Holds}
-use Rattle.store.specs.Memory.{fourWords, rowSet, runs, withRow, withRows}
-use Rattle.store.proofs.Cases.{by-eqb, by-ltb}
-use Rattle.store.proofs.Carried.{holds-as, holds-by, holds-row, row-bit, row-bits}
-use Rattle.store.proofs.Columns.{rows-in, rows-words, holds-rows}
+use Rattle.store.specs.Memory.{rowSet, withRow}
+use Rattle.store.proofs.Cases.{by-eqb}
+use Rattle.store.proofs.Carried.{SameContents, holds-as, holds-by, holds-row, row-bit, row-bits}
 use Rattle.formed.specs.Registry.{modelIn, bitWithin, bitsIn, registryIn, storedBit, contentsOf, image, wellFormed}
 use Rattle.formed.specs.Tests.{between}
 use Rattle.formed.proofs.Runs.{between-at, between-all}
 use Rattle.formed.proofs.Back.{matrix-bit, selected-bit, allowed-bit, written}
 use Rattle.formed.proofs.Formed.{formed-holds}
 use Rattle.formed.proofs.Acceptable.{containers-size, policies-size}
+use Rattle.reach.specs.declared.rules.Sides.{Sides}
 use Rattle.reach.specs.Lets.{bits}
-use Rattle.reach.specs.Sets.{RowsAre, SetsOf, directionSet}
+use Rattle.reach.specs.Sets.{SetsOf, SidesOf}
 use Rattle.reach.proofs.Model.{row-law}
 use Rattle.changes.specs.RuleBits.{ruleBits}
-
--- ---- a row of stored bits
-
-module _ (s : Bits) (x : ℕ) where
-  abbrev set : ℕ
-  set = (x - containerSlots) / 2
-
-  stored-by : (t u : Bool) → ltb x containerSlots ≡ t → eqb (x % 2) 0 ≡ u → storedBit s x ≡ (λ y. cond t (s .matrix x y) (cond u (s .selected set y) (s .allowed set y)))
-  unfolding storedBit
-  stored-by t u e f = fun-ext (λ y. ap₂ (λ (v w : Bool). cond v (s .matrix x y) (cond w (s .selected set y) (s .allowed set y))) e f)
-
-  pub stored-matrix : x < containerSlots → storedBit s x ≡ s .matrix x
-  stored-matrix h = stored-by true (eqb (x % 2) 0) (lt-ltb x containerSlots h) refl
-
-  pub stored-selected : containerSlots ≤ x → x % 2 ≡ 0 → storedBit s x ≡ s .selected set
-  stored-selected h e = stored-by false true (le-ltb x containerSlots h) (eq-eqb (x % 2) 0 e)
-
-  pub stored-allowed : containerSlots ≤ x → (x % 2 ≡ 0 → ⊥) → storedBit s x ≡ s .allowed set
-  stored-allowed h e = stored-by false false (le-ltb x containerSlots h) (ne-eqb (x % 2) 0 e)
+use Rattle.changes.proofs.StoredLaws.{Fit, ltb-step, stored-cong}
 
 -- bits that agree at their slots are stored alike
 module _ (s t : Bits) (y : ℕ) (f : (a : ℕ) → a < containerSlots → s .matrix a y ≡ t .matrix a y)
     (g : (q : ℕ) → q < policySlots → s .selected q y ≡ t .selected q y) (h : (q : ℕ) → q < policySlots → s .allowed q y ≡ t .allowed q y) where
-  pub stored-alike : (x : ℕ) → x < 512 → storedBit s x y ≡ storedBit t x y
-  unfolding storedBit
-  stored-alike x l =
-      let q = (x - containerSlots) / 2 in
-      by-ltb (λ u. cond u (s .matrix x y) (cond (eqb (x % 2) 0) (s .selected q y) (s .allowed q y)) ≡ cond u (t .matrix x y) (cond (eqb (x % 2) 0) (t .selected q y) (t .allowed q y))) x containerSlots
-      (λ k. f x k)
-      (λ k. by-eqb (λ u. cond u (s .selected q y) (s .allowed q y) ≡ cond u (t .selected q y) (t .allowed q y)) (x % 2) 0 (λ e. g q (omega arith)) (λ e. h q (omega arith)))
+  stored-alike : (x : ℕ) → x < 512 → storedBit s x y ≡ storedBit t x y
+  stored-alike x l = stored-cong s t x y (λ k. f x k) (λ k e. g ((x - 256) / 2) (omega arith)) (λ k e. h ((x - 256) / 2) (omega arith))
 
 -- ---- the bits by the rules over candidate sets are the model's
 
-module _ (m : Model) {sel alw : List (List ℕ)} (slots : length (m .policies) ≡ policySlots) (sets : SetsOf m sel alw) {s w v : ℕ → Bool}
-    (es : s ≡ stands (m .containers)) (ew : w ≡ directionSet m egress) (ev : v ≡ directionSet m ingress) where
-  pub rule-row : (x : ℕ) → x < 512 → storedBit (ruleBits s w v (bits sel) (bits alw)) x ≡ storedBit (computedBits m) x
+module _ (m : Model) {sel alw : List (List ℕ)} (slots : length (m .policies) ≡ policySlots) (sets : SetsOf m sel alw) {s : Sides} (sides : SidesOf m egress sel s) where
+  pub rule-row : (x : ℕ) → x < 512 → storedBit (ruleBits s (bits sel) (bits alw)) x ≡ storedBit (computedBits m) x
   unfolding ruleBits computedBits
-  rule-row x l = fun-ext (λ y. stored-alike (ruleBits s w v (bits sel) (bits alw)) (computedBits m) y
-      (λ a k. point (row-law m slots sets es ew ev a) y) (λ q k. point (sets .selected .row q k) y) (λ q k. point (sets .allowed .row q k) y) x l)
+  rule-row x l = fun-ext (λ y. stored-alike (ruleBits s (bits sel) (bits alw)) (computedBits m) y
+      (λ a k. point (row-law m slots sets sides a) y) (λ q k. point (sets .selected .row q k) y) (λ q k. point (sets .allowed .row q k) y) x l)
 
 -- ---- what a rebuild leaves
 
--- a memory with its first n rows made these
-unfoldable pub rowsSet : List (List ℕ) → List ℕ → ℕ → List ℕ
-rowsSet rows m n = runs (λ i l. rowSet l i (getD rows i [])) m n
+-- what a memory holds of a registry whose first n rows are set by the rules
+unfoldable pub rebuiltTo : Registry → ℕ → Contents
+rebuiltTo r n = record { words = contentsOf r .words; bits = λ x. cond (ltb x n) (storedBit (computedBits (r .model)) x) (contentsOf r .bits x) }
 
--- the first n rows of m are set, which gave e
-pub record Rebuilding (rows : List (List ℕ)) (m e : List ℕ) (n : ℕ) : Type 0 where
+-- the first n rows of r's memory are set, which gave e
+pub record Rebuilding (r : Registry) (e : List ℕ) (n : ℕ) : Type 0 where
   pub most : n ≤ 512
-  pub same : length e ≡ length m
-  pub done : e ≡ rowsSet rows m n
-  pub fits : (k : ℕ) → wordAt e k < 2 ^ 64
+  pub held : Holds e (rebuiltTo r n)
+  pub fit : Fit e
 
-pub rebuilding-none : {rows : List (List ℕ)} {m : List ℕ} → ((k : ℕ) → wordAt m k < 2 ^ 64) → Rebuilding rows m m 0
-unfolding rowsSet runs
-rebuilding-none f = record { most = omega arith; same = refl; done = refl; fits = f }
+module _ (r : Registry) where
+  begins : SameContents (contentsOf r) (rebuiltTo r 0)
+  unfolding rebuiltTo
+  begins = record { words = λ k l. refl; bits = λ x y hx hy. ap (λ (t : Bool). cond t (storedBit (computedBits (r .model)) x) (contentsOf r .bits x) y) (sym (le-ltb x 0 (omega arith))) }
 
-pub rebuilding-next : {rows : List (List ℕ)} {m e d : List ℕ} {n : ℕ} → Rebuilding rows m e n → n < 512 → d ≡ rowSet e n (getD rows n []) → ((k : ℕ) → wordAt d k < 2 ^ 64)
-    → Rebuilding rows m d (n + 1)
-unfolding rowsSet runs rowSet
-rebuilding-next {rows} {m} {e} {d} {n} g h q f = record {
-  most = omega arith;
-  same = ap length q ∙ length-sets e (rowStart n) (fourWords (getD rows n [])) ∙ g .same;
-  done = q ∙ ap (λ (l : List ℕ). rowSet l n (getD rows n [])) (g .done) ∙ ap (rowsSet rows m) (sym (add-one n));
-  fits = f;
-}
+  goes-on : (n : ℕ) (s : ℕ → Bool) → s ≡ storedBit (computedBits (r .model)) n → SameContents (withRow (rebuiltTo r n) n s) (rebuiltTo r (n + 1))
+  unfolding rebuiltTo withRow
+  goes-on n s e =
+      let t : ℕ → ℕ → Bool = storedBit (computedBits (r .model)) in
+      record {
+        words = λ k l. refl;
+        bits = λ x y hx hy. by-eqb (λ u. cond u s (rebuiltTo r n .bits x) y ≡ rebuiltTo r (n + 1) .bits x y) x n
+            (λ q. point (e ∙ ap t (sym q)) y ∙ ap (λ (u : Bool). cond u (t x) (contentsOf r .bits x) y) (sym (lt-ltb x (n + 1) (omega arith))))
+            (λ q. ap (λ (u : Bool). cond u (t x) (contentsOf r .bits x) y) (ltb-step x n q));
+      }
 
-module _ (rows : List (List ℕ)) {m : List ℕ} {c : Contents} (h : Holds m c) where
-  holds-set : (n : ℕ) → n ≤ 512 → Holds (rowsSet rows m n) (withRows c 0 1 n (λ i old. bits rows i))
-  unfolding rowsSet
-  holds-set n l =
-      holds-rows (λ i k. rowSet k i (getD rows i [])) (λ i old. bits rows i) 0 1 n (omega arith)
-      (λ i hi k d g. let e : i ≡ 0 + 1 * i = omega arith in
-      subst (λ (r : ℕ). Holds (rowSet k i (getD rows i [])) (withRow d r (bits rows i))) e (holds-row g i (getD rows i []) (omega arith))) h
+  ends : SameContents (rebuiltTo r 512) (contentsOf (rebuilt r))
+  unfolding rebuiltTo rebuilt computed contentsOf
+  ends = record { words = λ k l. refl; bits = λ x y hx hy. ap (λ (u : Bool). cond u (storedBit (computedBits (r .model)) x) (contentsOf r .bits x) y) (lt-ltb x 512 hx) }
 
-  pub holds-all : (d : Contents) → c .words ≡ d .words → ((x : ℕ) → x < 512 → bits rows x ≡ d .bits x) → Holds (rowsSet rows m 512) d
-  holds-all d w f =
-      holds-as (holds-set 512 (omega arith)) d (record {
-        words = λ k l. ap (λ (g : ℕ → ℕ). g k) (rows-words c 0 1 512 (λ i old. bits rows i) ∙ w);
-        bits = λ x y hx hy. point (rows-in c 0 1 512 (λ i old. bits rows i) x x (omega arith) hx (omega arith) ∙ f x hx) y;
-      })
+  pub rebuilding-none : {m : List ℕ} → Holds m (contentsOf r) → Fit m → Rebuilding r m 0
+  rebuilding-none h f = record { most = omega arith; held = holds-as h (rebuiltTo r 0) begins; fit = f }
 
-module _ (m : List ℕ) (ok : wellFormed m ≡ true) {rows : List (List ℕ)} (rule : RowsAre 512 (storedBit (computedBits (modelIn m))) rows) where
-  pub rebuilt-image : {e : List ℕ} {n : ℕ} → Rebuilding rows m e n → 512 ≤ n → e ≡ image (rebuilt (registryIn m))
-  unfolding rebuilt computed contentsOf registryIn
+  pub rebuilding-next : {e d : List ℕ} {n : ℕ} → Rebuilding r e n → n < 512 → (row : List ℕ) → bitAt row ≡ storedBit (computedBits (r .model)) n → d ≡ rowSet e n row → Fit d
+      → Rebuilding r d (n + 1)
+  rebuilding-next {n = n} g h row s q f = record {
+    most = omega arith;
+    held = holds-by (holds-as (holds-row (g .held) n row h) (rebuiltTo r (n + 1)) (goes-on n (bitAt row) s)) q;
+    fit = f;
+  }
+
+  pub rebuilt-image : {e : List ℕ} {n : ℕ} → Rebuilding r e n → 512 ≤ n → e ≡ image (rebuilt r)
   rebuilt-image {e} {n} g h =
       let q : n ≡ 512 = omega (arith, g .most) in
-      written (rebuilt (registryIn m)) e
-      (holds-by (holds-all rows (formed-holds m ok) (contentsOf (rebuilt (registryIn m))) refl (rule .row)) (g .done ∙ ap (rowsSet rows m) q)) (g .fits)
+      written (rebuilt r) e (holds-as (subst (λ (k : ℕ). Holds e (rebuiltTo r k)) q (g .held)) (contentsOf (rebuilt r)) ends) (g .fit)
 
 -- ---- what an audit compares
 
--- row x of a memory is row x of these
-unfoldable pub sameRow : List ℕ → List (List ℕ) → ℕ → Bool
-sameRow m rows x = equal (bitAt (rowAt m x)) (bits rows x)
+-- row x of a memory is by the rules of its entries
+unfoldable pub ruledRow : List ℕ → ℕ → Bool
+ruledRow m x = equal (bitAt (rowAt m x)) (storedBit (computedBits (modelIn m)) x)
 
-module _ (m : List ℕ) (ok : wellFormed m ≡ true) {rows : List (List ℕ)} (rule : RowsAre 512 (storedBit (computedBits (modelIn m))) rows) where
-  follows-row : FollowsRules (registryIn m) → (x : ℕ) → x < 512 → sameRow m rows x ≡ true
-  unfolding sameRow Agree contentsOf registryIn
-  follows-row f x l = equal-all (bitAt (rowAt m x)) (bits rows x) (λ y h.
+module _ (m : List ℕ) (ok : wellFormed m ≡ true) where
+  follows-row : FollowsRules (registryIn m) → (x : ℕ) → x < 512 → ruledRow m x ≡ true
+  unfolding ruledRow Agree contentsOf registryIn
+  follows-row f x l = equal-all (bitAt (rowAt m x)) (storedBit (computedBits (modelIn m)) x) (λ y h.
       row-bit m x y h ∙ formed-holds m ok .bits x y l h
-      ∙ stored-alike (bitsIn m) (computedBits (modelIn m)) y (λ a k. f .matrix a y k h) (λ q k. f .selected q y k h) (λ q k. f .allowed q y k h) x l
-      ∙ sym (point (rule .row x l) y))
+      ∙ stored-alike (bitsIn m) (computedBits (modelIn m)) y (λ a k. f .matrix a y k h) (λ q k. f .selected q y k h) (λ q k. f .allowed q y k h) x l)
 
   -- a memory whose rows are those by the rules holds the registry rebuilt
-  rows-hold : ((x : ℕ) → x < 512 → sameRow m rows x ≡ true) → Holds m (contentsOf (rebuilt (registryIn m)))
-  unfolding sameRow contentsOf rebuilt computed registryIn
+  rows-hold : ((x : ℕ) → x < 512 → ruledRow m x ≡ true) → Holds m (contentsOf (rebuilt (registryIn m)))
+  unfolding ruledRow contentsOf rebuilt computed registryIn
   rows-hold f =
       let h = formed-holds m ok in
       record {
         whole = h .whole;
         words = h .words;
-        bits = λ x y hx hy. sym (row-bit m x y hy) ∙ equal-in (bitAt (rowAt m x)) (bits rows x) (f x hx) y hy ∙ point (rule .row x hx) y;
+        bits = λ x y hx hy. sym (row-bit m x y hy) ∙ equal-in (bitAt (rowAt m x)) (storedBit (computedBits (modelIn m)) x) (f x hx) y hy;
       }
 
   rows-follow : Holds m (contentsOf (rebuilt (registryIn m))) → FollowsRules (registryIn m)
@@ -164,16 +136,16 @@ module _ (m : List ℕ) (ok : wellFormed m ≡ true) {rows : List (List ℕ)} (r
         allowed = λ q c k l. sym (allowed-bit r m h q c k l) ∙ allowed-bit (rebuilt r) m g q c k l;
       }
 
-  pub consistent-rows : consistent (registryIn m) ≡ between (sameRow m rows) 0 512
+  pub consistent-rows : consistent (registryIn m) ≡ between (ruledRow m) 0 512
   consistent-rows =
       same-test _ _
-      (λ e. between-all (sameRow m rows) 0 512 (λ x l h. follows-row (consistent-exactly (registryIn m) .0 e) x h))
-      (λ e. consistent-exactly (registryIn m) .1 (rows-follow (rows-hold (λ x h. between-at (sameRow m rows) 0 512 e x (omega arith) h))))
+      (λ e. between-all (ruledRow m) 0 512 (λ x l h. follows-row (consistent-exactly (registryIn m) .0 e) x h))
+      (λ e. consistent-exactly (registryIn m) .1 (rows-follow (rows-hold (λ x h. between-at (ruledRow m) 0 512 e x (omega arith) h))))
 
--- `same(row_at(memory, x), rows[x])`
-pub same-rows : (m : List ℕ) (rows : List (List ℕ)) (x : ℕ) {row : List ℕ} {t : Bool} → row ≡ rowAt m x → t ≡ equal (bitAt row) (bits rows x) → t ≡ sameRow m rows x
-unfolding sameRow
-same-rows m rows x e f = f ∙ ap (λ (l : List ℕ). equal (bitAt l) (bits rows x)) e
+-- `same(row_at(memory, x), row)`
+pub same-rows : (m : List ℕ) (x : ℕ) (row : List ℕ) {old : List ℕ} {t : Bool} → old ≡ rowAt m x → bitAt row ≡ storedBit (computedBits (modelIn m)) x → t ≡ equal (bitAt old) (bitAt row) → t ≡ ruledRow m x
+unfolding ruledRow
+same-rows m x row e r f = f ∙ ap₂ equal (ap bitAt e) r
 
 -- ---- how many pairs
 

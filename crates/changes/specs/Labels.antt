@@ -1,6 +1,5 @@
 -- The labels that a count and words say. Assumes nothing.
 use mathlib.Core.List.{List, map}
-use Prim.Native.Nat.{ℕ}
 use lib.ListN.{take}
 use Rattle.block.specs.declared.Labels.{Labels}
 use Rattle.block.specs.Entry.{Label}

@@ -66,11 +66,8 @@ fn line_of(
     requires { ⌜ SetsOf (modelIn (now memory)) (now selected) (now allowed) ⌝ }
     ensures { λ r. ⌜ bitAt r ≡ lineBit (modelIn (now (memory .entry))) (directionOf direction) c ⌝ }
 {
-    let out = reach::sets::of_direction(memory, direction);
-    let back = reach::sets::of_direction(memory, 3 - direction);
-    let chosen = reach::rules::union_of(back, selected);
-    let standing = formed::containers_standing(memory);
-    reach::rules::row_by_rules(c, out, back, chosen, selected, allowed, standing)
+    let sides = reach::sets::sides_of(memory, selected, direction);
+    reach::rules::row_by_rules(c, sides, selected, allowed)
 }
 
 // Container c's row and column of the matrix stored, and its bit in each policy's selected and allowed set.

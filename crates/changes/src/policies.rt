@@ -75,19 +75,16 @@ fn reset_row(
     memory: &mut [u64],
     a: usize,
     columns: [u64; 4],
-    out: [u64; 4],
-    back: [u64; 4],
-    chosen: [u64; 4],
+    sides: reach::rules::Sides,
     selected: &[[u64; 4]; 128],
     allowed: &[[u64; 4]; 128],
-    standing: [u64; 4],
 )
     requires { ⌜ Whole (now memory) × (a < 256) ⌝ }
-    requires { ⌜ bitAt chosen ≡ union (bitAt back) (bits (now selected)) 128 ⌝ }
-    ensures { λ u. ⌜ RowReset (now (memory .entry)) (now (memory .exit)) a (bitAt columns) (line 128 (bitAt standing) (bitAt out) (bitAt back) (bits (now (selected .entry))) (bits (now (allowed .entry))) a) ⌝ }
+    requires { ⌜ bitAt (sides .chosen) ≡ union (bitAt (sides .back)) (bits (now selected)) 128 ⌝ }
+    ensures { λ u. ⌜ RowReset (now (memory .entry)) (now (memory .exit)) a (bitAt columns) (line 128 (bitAt (sides .standing)) (bitAt (sides .out)) (bitAt (sides .back)) (bits (now (selected .entry))) (bits (now (allowed .entry))) a) ⌝ }
 {
     let old = store::row_at(memory, a);
-    let ruled = reach::rules::row_by_rules(a, out, back, chosen, selected, allowed, standing);
+    let ruled = reach::rules::row_by_rules(a, sides, selected, allowed);
     let row = bitrow::either(bitrow::except(old, columns), bitrow::both(ruled, columns));
     store::set_row(memory, a, row);
 }
@@ -97,28 +94,15 @@ fn reset_rows(memory: &mut [u64], rows: [u64; 4], columns: [u64; 4])
     requires { ⌜ wellFormed (now memory) ≡ true ⌝ }
     ensures { λ u. ⌜ now (memory .exit) ≡ image (resetWhere (registryIn (now (memory .entry))) (pairs (bitAt rows) (bitAt columns))) ⌝ }
 {
-    let standing = formed::containers_standing(memory);
     let selected = reach::sets::selected_sets(memory);
     let allowed = reach::sets::allowed_sets(memory);
-    let out = reach::sets::of_direction(memory, 2);
-    let back = reach::sets::of_direction(memory, 1);
-    let chosen = reach::rules::union_of(back, &selected);
+    let sides = reach::sets::sides_of(memory, &selected, 2);
     let mut a = 0;
     while a < 256 {
         let row = a;
         a += 1;
         if bitrow::has(rows, row) {
-            reset_row(
-                memory,
-                row,
-                columns,
-                out,
-                back,
-                chosen,
-                &selected,
-                &allowed,
-                standing,
-            );
+            reset_row(memory, row, columns, sides, &selected, &allowed);
         }
     }
 }

@@ -4,32 +4,27 @@ ghost use mathlib.Core.Bool.{true};
 ghost use Prim.Native.Nat.{_<_};
 ghost use lib.ListN.{length};
 ghost use Rattle.bitrow.specs.Bit.{bitAt};
-ghost use Rattle.model.specs.Model.{computedBits};
 ghost use Rattle.model.specs.Registry.{rebuilt, consistent};
 ghost use Rattle.model.specs.Findings.{containersOf, policiesOf, pairs as setPairs};
 ghost use Rattle.store.specs.Layout.{Whole};
 ghost use Rattle.formed.specs.Registry.{modelIn, bitsIn, registryIn, storedBit, image, wellFormed};
 ghost use Rattle.reach.specs.Lets.{bits, union};
-ghost use Rattle.reach.specs.Sets.{RowsAre};
 ghost use Rattle.changes.specs.RuleBits.{ruleBits};
 
-// Row r of the rows of bits by the rules, from each policy's two sets: a row of the matrix, then by turns what a policy selects and
-// what it allows. Chosen is what the ingress policies select.
+// Row r of the stored bits by the rules, from each policy's two sets: a row of the matrix, then by turns what a policy selects and
+// what it allows.
 fn row_of_bits(
     r: usize,
-    standing: [u64; 4],
-    egress: [u64; 4],
-    ingress: [u64; 4],
-    chosen: [u64; 4],
+    sides: reach::rules::Sides,
     selected: &[[u64; 4]; 128],
     allowed: &[[u64; 4]; 128],
 ) -> [u64; 4]
     requires { ⌜ r < 512 ⌝ }
-    requires { ⌜ bitAt chosen ≡ union (bitAt ingress) (bits (now selected)) 128 ⌝ }
-    ensures { λ row. ⌜ bitAt row ≡ storedBit (ruleBits (bitAt standing) (bitAt egress) (bitAt ingress) (bits (now (selected .entry))) (bits (now (allowed .entry)))) r ⌝ }
+    requires { ⌜ bitAt (sides .chosen) ≡ union (bitAt (sides .back)) (bits (now selected)) 128 ⌝ }
+    ensures { λ row. ⌜ bitAt row ≡ storedBit (ruleBits sides (bits (now (selected .entry))) (bits (now (allowed .entry)))) r ⌝ }
 {
     if r < 256 {
-        return reach::rules::row_by_rules(r, egress, ingress, chosen, selected, allowed, standing);
+        return reach::rules::row_by_rules(r, sides, selected, allowed);
     }
     let q = (r - 256) / 2;
     if r % 2 == 0 {
@@ -38,36 +33,17 @@ fn row_of_bits(
     allowed[q]
 }
 
-// All rows of bits by the rules, from the entries.
-fn rows_of_bits(memory: &[u64]) -> [[u64; 4]; 512]
-    requires { ⌜ wellFormed (now memory) ≡ true ⌝ }
-    ensures { λ rows. ⌜ RowsAre 512 (storedBit (computedBits (modelIn (now (memory .entry))))) rows ⌝ }
-{
-    let selected = reach::sets::selected_sets(memory);
-    let allowed = reach::sets::allowed_sets(memory);
-    let standing = formed::containers_standing(memory);
-    let egress = reach::sets::of_direction(memory, 2);
-    let ingress = reach::sets::of_direction(memory, 1);
-    let chosen = reach::rules::union_of(ingress, &selected);
-    let mut rows = [[0u64; 4]; 512];
-    let mut i = 0;
-    while i < 512 {
-        let row = row_of_bits(i, standing, egress, ingress, chosen, &selected, &allowed);
-        rows[i] = row;
-        i += 1;
-    }
-    rows
-}
-
 // "Rebuild sets every kept bit by the rules."
 pub fn rebuild(memory: &mut [u64])
     requires { ⌜ wellFormed (now memory) ≡ true ⌝ }
     ensures { λ u. ⌜ now (memory .exit) ≡ image (rebuilt (registryIn (now (memory .entry)))) ⌝ }
 {
-    let rows = rows_of_bits(memory);
+    let selected = reach::sets::selected_sets(memory);
+    let allowed = reach::sets::allowed_sets(memory);
+    let sides = reach::sets::sides_of(memory, &selected, 2);
     let mut r = 0;
     while r < 512 {
-        let row = rows[r];
+        let row = row_of_bits(r, sides, &selected, &allowed);
         store::set_row(memory, r, row);
         r += 1;
     }
@@ -78,10 +54,12 @@ pub fn is_consistent(memory: &[u64]) -> bool
     requires { ⌜ wellFormed (now memory) ≡ true ⌝ }
     ensures { λ r. ⌜ r ≡ consistent (registryIn (now (memory .entry))) ⌝ }
 {
-    let rows = rows_of_bits(memory);
+    let selected = reach::sets::selected_sets(memory);
+    let allowed = reach::sets::allowed_sets(memory);
+    let sides = reach::sets::sides_of(memory, &selected, 2);
     let mut x = 0;
     while x < 512 {
-        let row = rows[x];
+        let row = row_of_bits(x, sides, &selected, &allowed);
         if !bitrow::same(store::row_at(memory, x), row) {
             return false;
         }

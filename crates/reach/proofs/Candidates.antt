@@ -3,7 +3,7 @@ use mathlib.Core.Path.{_≡_, refl, sym, ap, ap₂, _∙_, fun-ext}
 use mathlib.Core.Bool.{Bool, true, false, not, _&&_, cond, and-false, and-true}
 use mathlib.Core.List.{List, []}
 use mathlib.Core.Option.{none, some}
-use Prim.Native.Nat.{ℕ, zero, suc, _+_, _≤_, _<_}
+use Prim.Native.Nat.{ℕ, zero, suc, _+_, _-_, _≤_, _<_}
 use native.Mathlib.Decide.{ℕ-discrete, decLt}
 use native.Mathlib.Omega.{arith}
 use lib.Dec.{eqb}
@@ -27,7 +27,7 @@ use Rattle.formed.proofs.Reading.{policy-slot, policy-beyond, policy-stands, po
 use Rattle.formed.proofs.Trials.{select-within, allow-within, select-row, allow-row}
 use Rattle.formed.proofs.FormedEntries.{formed-heads}
 use Rattle.reach.specs.Lets.{bits}
-use Rattle.reach.specs.Sets.{RowsAre, directionSet, partSet, PartsWithin}
+use Rattle.reach.specs.Sets.{RowsAre, directionSet, partSet, PartsWithin, opposite}
 
 -- ---- an array of rows, filled from the front
 
@@ -159,6 +159,13 @@ module _ (m : List ℕ) (ok : wellFormed m ≡ true) (d : ℕ) (low : 1 ≤ d) (
       go q (no l) =
           ap (λ (t : Bool). hasWord m d q && t) (under-out policySlots q (omega arith)) ∙ and-false (hasWord m d q)
           ∙ sym (ap (on (λ p. sameDirection (directionOf d) (p .direction))) (policy-beyond m q (omega arith)))
+
+pub other-direction : (d : ℕ) → 1 ≤ d → d ≤ 2 → directionOf (3 - d) ≡ opposite (directionOf d)
+unfolding directionOf
+other-direction zero a b = absurd (omega arith)
+other-direction (suc zero) a b = refl
+other-direction (suc (suc zero)) a b = refl
+other-direction (suc (suc (suc d))) a b = absurd (omega arith)
 
 -- ---- what the laws of a line ask of a memory's model
 

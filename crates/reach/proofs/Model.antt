@@ -6,6 +6,7 @@ use mathlib.Core.List.{List, [], _∷_}
 use mathlib.Core.Option.{Option, none, some as just}
 use Prim.Native.Nat.{ℕ, zero, suc, _<_}
 use lib.ListN.{length}
+use Rattle.bitrow.specs.Bit.{bitAt}
 use Rattle.bitrow.specs.Set.{nothing, some}
 use Rattle.bitrow.proofs.Sets.{at as point}
 use Rattle.bitrow.proofs.Tests.{some-cong}
@@ -15,7 +16,8 @@ use Rattle.model.specs.Rules.{sameDirection, selects, allows, someSelects, some
 use Rattle.model.specs.Rules as rules
 use Rattle.model.specs.Model.{policySlots, Model, matrixBit, selectedBit, allowedBit}
 use Rattle.reach.specs.Lets.{bits, having, union, lets, line}
-use Rattle.reach.specs.Sets.{RowsAre, SetsOf, directionSet, opposite, lineBit}
+use Rattle.reach.specs.declared.rules.Sides.{Sides}
+use Rattle.reach.specs.Sets.{RowsAre, SetsOf, SidesOf, directionSet, opposite, lineBit}
 
 -- ---- some slot of a table, as some number below its length
 
@@ -110,12 +112,9 @@ line-none m d a e = fun-ext (λ b. go d b (at (m .containers) a) (at (m .contain
     go d b (just x) p f g h = absurd (true≢false h)
 
 -- what `row_by_rules` gives of a model's sets, its policies in their slots
-module _ (m : Model) {sel alw : List (List ℕ)} (size : length (m .policies) ≡ policySlots) (sets : SetsOf m sel alw)
-    {s : ℕ → Bool} (standing : s ≡ stands (m .containers)) where
-  pub row-law : {w v : ℕ → Bool} → w ≡ directionSet m egress → v ≡ directionSet m ingress
-      → (a : ℕ) → line policySlots s w v (bits sel) (bits alw) a ≡ matrixBit m a
-  row-law g h a = line-sets m size (sets .selected) (sets .allowed) egress standing g h a ∙ line-row m a
+module _ (m : Model) {sel alw : List (List ℕ)} (size : length (m .policies) ≡ policySlots) (sets : SetsOf m sel alw) {s : Sides} where
+  pub line-law : (d : Direction) → SidesOf m d sel s → (a : ℕ) → line policySlots (bitAt (s .standing)) (bitAt (s .out)) (bitAt (s .back)) (bits sel) (bits alw) a ≡ lineBit m d a
+  line-law d f a = line-sets m size (sets .selected) (sets .allowed) d (f .standing) (f .out) (f .back) a
 
-  pub column-law : {w v : ℕ → Bool} → w ≡ directionSet m ingress → v ≡ directionSet m egress
-      → (b : ℕ) → line policySlots s w v (bits sel) (bits alw) b ≡ (λ a. matrixBit m a b)
-  column-law g h b = line-sets m size (sets .selected) (sets .allowed) ingress standing g h b ∙ line-column m b
+  pub row-law : SidesOf m egress sel s → (a : ℕ) → line policySlots (bitAt (s .standing)) (bitAt (s .out)) (bitAt (s .back)) (bits sel) (bits alw) a ≡ matrixBit m a
+  row-law f a = line-law egress f a ∙ line-row m a

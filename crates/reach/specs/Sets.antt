@@ -4,13 +4,15 @@ use mathlib.Core.Bool.{Bool, not, _&&_}
 use mathlib.Core.List.{List}
 use Prim.Native.Nat.{ℕ, _+_, _<_}
 use lib.Dec.{eqb}
+use Rattle.bitrow.specs.Bit.{bitAt}
 use Rattle.block.specs.Entry.{Direction, ingress, egress}
-use Rattle.model.specs.Table.{on, at}
+use Rattle.model.specs.Table.{on, at, stands}
 use Rattle.model.specs.Rules.{sameDirection}
 use Rattle.model.specs.Model.{policySlots, Model, matrixBit, selectedBit, allowedBit}
 use Rattle.store.specs.Layout.{wordAt, policyStart}
 use Rattle.formed.specs.Entries.{PartWithin, trialSet}
-use Rattle.reach.specs.Lets.{bits}
+use Rattle.reach.specs.declared.rules.Sides.{Sides}
+use Rattle.reach.specs.Lets.{bits, union}
 
 -- row q is the set f q, for each q below n
 pub record RowsAre (n : ℕ) (f : ℕ → ℕ → Bool) (rows : List (List ℕ)) : Type 0 where
@@ -36,6 +38,13 @@ pub record PartsWithin (m : List ℕ) (offset : ℕ) : Type 0 where
 abbrev pub opposite : Direction → Direction
 opposite ingress = egress
 opposite egress = ingress
+
+-- what a line of the matrix is worked out from, by the entries: a row for egress, a column for ingress
+pub record SidesOf (m : Model) (d : Direction) (sel : List (List ℕ)) (s : Sides) : Type 0 where
+  pub standing : bitAt (s .standing) ≡ stands (m .containers)
+  pub out : bitAt (s .out) ≡ directionSet m d
+  pub back : bitAt (s .back) ≡ directionSet m (opposite d)
+  pub chosen : bitAt (s .chosen) ≡ union (bitAt (s .back)) (bits sel) policySlots
 
 -- the bits that a policy's direction sets: row a of the matrix for egress, column a for ingress
 unfoldable pub lineBit : Model → Direction → ℕ → ℕ → Bool

@@ -92,24 +92,34 @@ pub fn inward(
     bitrow::either(bitrow::except(among, chosen), bitrow::both(among, who))
 }
 
+// What a line of the matrix is worked out from, beside each policy's two sets: the standing containers, the policies of the line's
+// direction, those of the other, and what those select.
+pub struct Sides {
+    pub standing: [u64; 4],
+    pub out: [u64; 4],
+    pub back: [u64; 4],
+    pub chosen: [u64; 4],
+}
+
 // The standing containers that a standing a reaches, where `out` are the egress and `back` the ingress policies; those that reach a,
-// where they are exchanged. Chosen is what the policies of `back` select.
+// where they are exchanged.
 pub fn row_by_rules(
     a: usize,
-    out: [u64; 4],
-    back: [u64; 4],
-    chosen: [u64; 4],
+    sides: Sides,
     selected: &[[u64; 4]; 128],
     allowed: &[[u64; 4]; 128],
-    standing: [u64; 4],
 ) -> [u64; 4]
     requires { ⌜ a < 256 ⌝ }
-    requires { ⌜ bitAt chosen ≡ union (bitAt back) (bits (now selected)) 128 ⌝ }
-    ensures { λ r. ⌜ bitAt r ≡ line 128 (bitAt standing) (bitAt out) (bitAt back) (bits (now (selected .entry))) (bits (now (allowed .entry))) a ⌝ }
+    requires { ⌜ bitAt (sides .chosen) ≡ union (bitAt (sides .back)) (bits (now selected)) 128 ⌝ }
+    ensures { λ r. ⌜ bitAt r ≡ line 128 (bitAt (sides .standing)) (bitAt (sides .out)) (bitAt (sides .back)) (bits (now (selected .entry))) (bits (now (allowed .entry))) a ⌝ }
 {
+    let standing = sides.standing;
     if !bitrow::has(standing, a) {
         return bitrow::none();
     }
+    let out = sides.out;
     let there = outward(a, out, selected, allowed, standing);
+    let back = sides.back;
+    let chosen = sides.chosen;
     inward(a, back, chosen, selected, allowed, there)
 }

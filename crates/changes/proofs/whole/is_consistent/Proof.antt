@@ -3,38 +3,59 @@ use borrow.Author.Needs.{needs}
 use native.Mathlib.Omega.{arith}
 use mathlib.Core.Path.{_≡_, sym, _∙_}
 use Prim.Native.Nat.{_-_}
+use Rattle.block.specs.Reader.{directionOf}
 use Rattle.model.specs.Registry.{consistent}
 use Rattle.formed.specs.Registry.{registryIn}
 use Rattle.formed.specs.Tests.{between}
 use Rattle.formed.proofs.Reading.{formed-whole}
 use Rattle.formed.proofs.Runs.{between-hit, between-skip, between-done, said-no, said-yes}
-use Rattle.changes.proofs.WholeLaws.{sameRow, same-rows, consistent-rows}
+use Rattle.reach.proofs.Candidates.{policies-length}
+use Rattle.changes.proofs.WholeLaws.{ruledRow, same-rows, rule-row, consistent-rows}
 use Rattle.changes.proofs.whole.is_consistent.Statement.{statement}
 use Rattle.changes.proofs.whole.is_consistent.Tie as tie
 
 abbrev Inv-loop : tie.InvT-loop
-Inv-loop memory rows x₀ x = consistent (registryIn memory) ≡ between (sameRow memory rows) x 512
+Inv-loop memory selected allowed sides x₀ x = consistent (registryIn memory) ≡ between (ruledRow memory) x 512
 
 abbrev μ-loop : tie.MeasureT-loop
-μ-loop memory rows x₀ x = 512 - x
+μ-loop memory selected allowed sides x₀ x = 512 - x
+
+sides-of-requires : tie.Need-sides-of-requires Inv-loop μ-loop
+sides-of-requires c κs = (c .before .before .before .before .pre, omega arith, omega arith)
 
 loop-holds : tie.Need-loop-holds Inv-loop μ-loop
-loop-holds c = consistent-rows _ (c .before .before .pre) (c .rows-of-bits .ensures)
+loop-holds c = consistent-rows _ (c .before .before .before .before .before .pre)
+
+row-of-bits-requires : tie.Need-row-of-bits-requires Inv-loop μ-loop
+row-of-bits-requires c κs = let t = c .before .before in (t .loop-test .taken, t .before .before .sides-of .ensures .chosen)
 
 row-at-requires : tie.Need-row-at-requires Inv-loop μ-loop
-row-at-requires c κs = (formed-whole _ (c .before .before .before .before .before .pre), omega arith)
+row-at-requires c κs =
+    let t = c .before .before .before in
+    (formed-whole _ (t .before .before .before .before .before .before .before .pre), t .loop-test .taken)
+
+-- whether the row is by the rules
+module _ (c : tie.After-same Inv-loop μ-loop) where
+  abbrev row : tie.After-row-of-bits Inv-loop μ-loop
+  row = c .before .before
+
+  abbrev turn : tie.In-loop Inv-loop μ-loop
+  turn = row .before .before .before
+
+  ruled : c .same .result ≡ ruledRow (turn .before .before .before .before .before .before .before .args .memory .now) (turn .before .loop .x)
+  unfolding directionOf
+  ruled =
+      let d = turn .before .before in
+      let a = d .before .before in
+      same-rows _ _ _ (c .before .row-at .ensures)
+      (row .row-of-bits .ensures ∙ rule-row _ (policies-length _) (record { selected = a .before .selected-sets .ensures; allowed = a .allowed-sets .ensures }) (d .sides-of .ensures) _ (turn .loop-test .taken))
+      (c .same .ensures)
 
 returns : tie.Need-returns Inv-loop μ-loop
-returns c =
-    let s = c .before in
-    let l = s .before .before .before .before .loop in
-    sym (l .inv ∙ between-hit _ (l .x) _ (omega arith) (said-no (same-rows _ _ (l .x) (s .before .row-at .ensures) (s .same .ensures)) (c .if1 .taken)))
+returns c = let l = turn (c .before) .before .loop in sym (l .inv ∙ between-hit _ (l .x) _ (omega arith) (said-no (ruled (c .before)) (c .if1 .taken)))
 
 loop-again : tie.Need-loop-again Inv-loop μ-loop
-loop-again c =
-    let s = c .before in
-    let l = s .before .before .before .before .loop in
-    l .inv ∙ between-skip _ (l .x) _ (omega arith) (said-yes (same-rows _ _ (l .x) (s .before .row-at .ensures) (s .same .ensures)) (c .if1 .left))
+loop-again c = let l = turn (c .before) .before .loop in l .inv ∙ between-skip _ (l .x) _ (omega arith) (said-yes (ruled (c .before)) (c .if1 .left))
 
 returns-2 : tie.Need-returns-2 Inv-loop μ-loop
 returns-2 c = sym (c .before .loop .inv ∙ between-done _ (c .before .loop .x) _ (c .loop-test .left))
@@ -46,9 +67,10 @@ is-consistent-spec =
     Inv-loop
     μ-loop
     (λ c κs. search needs)
+    (λ c κs. search needs)
+    sides-of-requires
     loop-holds
-    (λ c. search needs)
-    (λ c. search needs)
+    row-of-bits-requires
     row-at-requires
     (λ c κs. search needs)
     returns

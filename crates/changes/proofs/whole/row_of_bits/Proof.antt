@@ -2,7 +2,7 @@
 use borrow.Author.Needs.{needs}
 use mathlib.Core.Path.{_∙_, sym}
 use Rattle.changes.specs.RuleBits.{ruleBits}
-use Rattle.changes.proofs.WholeLaws.{stored-matrix, stored-selected, stored-allowed}
+use Rattle.changes.proofs.StoredLaws.{stored-matrix, stored-even, stored-odd}
 use Rattle.changes.proofs.whole.row_of_bits.Statement.{statement}
 use Rattle.changes.proofs.whole.row_of_bits.Tie as tie
 
@@ -12,11 +12,11 @@ returns c = c .row-by-rules .ensures ∙ sym (stored-matrix _ _ (c .before .if1 
 
 returns-2 : tie.Need-returns-2
 unfolding ruleBits
-returns-2 c = sym (stored-selected _ _ (c .before .before .if1 .left) (c .before .if2 .taken))
+returns-2 c = sym (stored-even _ _ (c .before .before .if1 .left) (c .before .if2 .taken))
 
 returns-3 : tie.Need-returns-3
 unfolding ruleBits
-returns-3 c = sym (stored-allowed _ _ (c .before .before .if1 .left) (c .before .if2 .left))
+returns-3 c = sym (stored-odd _ _ (c .before .before .if1 .left) (c .before .if2 .left))
 
 pub row-of-bits-spec : {M : Type 1} → statement M
 row-of-bits-spec =

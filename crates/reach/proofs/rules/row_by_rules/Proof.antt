@@ -15,9 +15,9 @@ returns c =
 
 returns-2 : tie.Need-returns-2
 returns-2 c =
-    let t = c .before .before in
-    let k = t .before .before .args in
-    cc (line-meet 128 (bitAt (k .standing)) (bitAt (k .out)) (bitAt (k .back)) (bits (k .selected .now)) (bits (k .allowed .now)) (k .a) (sym (t .before .has .ensures) ∙ not-false _ (t .if1 .left)))
+    let t = c .before .before .before .before .before in
+    let k = t .before .before .before .args in
+    cc (line-meet 128 (bitAt (k .sides .standing)) (bitAt (k .sides .out)) (bitAt (k .sides .back)) (bits (k .selected .now)) (bits (k .allowed .now)) (k .a) (sym (t .before .has .ensures) ∙ not-false _ (t .if1 .left)))
 
 pub row-by-rules-spec : {M : Type 1} → statement M
 row-by-rules-spec = tie.close (tie.spec (λ c κs. search needs) (λ c κs. search needs) returns (λ c κs. search needs) (λ c κs. search needs) returns-2)
