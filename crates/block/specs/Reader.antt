@@ -1,11 +1,11 @@
 -- The readers of blocks: refusals 3 to 9, and what an accepted block says. Assumes nothing.
-use mathlib.Core.Bool.{Bool, true, false, _&&_, _||_, cond}
+use mathlib.Core.Bool.{Bool, _&&_, _||_, cond}
 use mathlib.Core.List.{List, [], _∷_, _++_}
 use Prim.Native.Nat.{ℕ, zero, suc, _+_, _-_, _*_}
 use lib.Dec.{eqb, leb, ltb}
 use lib.ListN.{length}
 use Rattle.block.specs.declared.Fault.{Fault}
-use Rattle.block.specs.Entry.{Label, Container, Direction, ingress, egress, Policy, Settings, Entry, container, policy}
+use Rattle.block.specs.Entry.{Label, Direction, ingress, egress, Policy, Settings, Entry, container, policy}
 use Rattle.block.specs.Bytes.{byteAt, numberAt, checksum}
 use Rattle.block.specs.Fault.{unless, orElse, between, firstIn}
 use Rattle.block.specs.Refusal.{Check, check, firstRefusal, Read, unlessRefused}

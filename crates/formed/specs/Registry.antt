@@ -3,12 +3,12 @@ use mathlib.Core.Path.{_≡_}
 use mathlib.Core.Bool.{Bool, true, false, not, _&&_, _||_, cond}
 use mathlib.Core.List.{List, [], _∷_}
 use mathlib.Core.Option.{Option, none, some}
-use Prim.Native.Nat.{ℕ, _+_, _*_, _-_, _/_, _%_}
+use Prim.Native.Nat.{ℕ, _-_, _/_, _%_}
 use lib.Dec.{eqb, ltb}
 use lib.ListN.{length}
-use Rattle.block.specs.Entry.{Container, Policy, Settings, Entry, container, policy}
+use Rattle.block.specs.Entry.{container, policy}
 use Rattle.block.specs.Written.{validSettings, validEntry}
-use Rattle.model.specs.Table.{Table, all, at, stands, below}
+use Rattle.model.specs.Table.{all, at, stands, below}
 use Rattle.model.specs.Model.{containerSlots, policySlots, Model, Bits}
 use Rattle.model.specs.Registry.{Registry}
 use Rattle.store.specs.Layout.{memoryWords, containersStart, containerWords, policiesStart, policyWords, selectedRow, allowedRow, rowBit}

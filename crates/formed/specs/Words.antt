@@ -1,7 +1,7 @@
 -- The words of settings and entries, and what words say. A label is one word. Every list of labels is a part: a header word, one
 -- more than the count, then as many label words as its limit, zero past the count. A container is a part of 8; a policy is its
 -- direction's number and two parts of 4; a free slot is all zero. Assumes nothing.
-use mathlib.Core.Bool.{Bool, cond}
+use mathlib.Core.Bool.{cond}
 use mathlib.Core.List.{List, [], _∷_, map}
 use mathlib.Core.Option.{Option, none, some}
 use Prim.Native.Nat.{ℕ, zero, suc, _+_, _*_, _-_, _/_, _%_}

@@ -1,7 +1,5 @@
 // The instances of document 01 that the proved table does not hold, and each refusal at least once. Writes a line for each:
 // the case's number, the refusal's or 0, and what else the call answered.
-ghost use mathlib.Core.Path.{_≡_};
-ghost use lib.ListN.{length};
 use libc::STDOUT_FILENO;
 use model::ContainerSlot;
 use model::PolicySlot;

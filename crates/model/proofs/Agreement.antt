@@ -1,10 +1,10 @@
 -- On computed bits the registry's step is the model's, and so for every list of calls. Assumes nothing.
-use mathlib.Core.Path.{_≡_, refl, sym, ap, _∙_}
-use mathlib.Core.Bool.{Bool, true, false, not, _&&_, _||_, cond}
+use mathlib.Core.Path.{_≡_, refl, ap, _∙_}
+use mathlib.Core.Bool.{Bool, true, false, _&&_, _||_, cond}
 use mathlib.Core.Logic.{_↔_}
 use mathlib.Core.List.{List, [], _∷_, _++_}
 use mathlib.Core.Option.{Option, none, some}
-use Prim.Native.Nat.{ℕ, _<_}
+use Prim.Native.Nat.{ℕ}
 use native.Mathlib.Omega.{arith}
 use lib.Dec.{ltb}
 use lib.ListN.{length, length-set, length-replicate}
@@ -15,14 +15,14 @@ use Rattle.block.specs.Entry.{Container, Policy, Settings, Entry, container, po
 use Rattle.block.specs.Refusal.{Refusal, Check, check, refuse, firstRefusal, Read, refused, accepted}
 use Rattle.block.specs.Refusal.{unlessRefused as readUnless}
 use Rattle.block.specs.Reader.{settingsChecks, entryChecks, settingsIn, entryIn, readSettings, readEntry}
-use Rattle.model.specs.Table.{Table, on, isFree, at, free, full, lowestFree}
+use Rattle.model.specs.Table.{Table, on, isFree, at, free, lowestFree}
 use Rattle.model.specs.Rules.{carries}
 use Rattle.model.specs.Model.{containerSlots, policySlots, Model, empty, withContainer, withPolicy, computedBits}
 use Rattle.model.specs.Calls.{Call, openWith, admit, removeContainer, removePolicy, askReaches, askUser, nextFinding, counts, rebuild, audit}
-use Rattle.model.specs.Calls.{Answer, refusal, done, containerAt, policyAt, says, run}
+use Rattle.model.specs.Calls.{refusal, done, containerAt, policyAt, says, run}
 use Rattle.model.specs.ModelStep.{opening, placing, placingPolicy, admitting, removing, removingPolicy, asking, askingUser, modelStep}
-use Rattle.model.specs.Registry.{Registry, computed, consistent, FollowsRules, changeContainer, changePolicy, opened, rebuilt}
-use Rattle.model.specs.Refusals.{where0, beyond, slotChecks, pairChecks, noRoom, refusals}
+use Rattle.model.specs.Registry.{Registry, computed, consistent, FollowsRules, changeContainer, rebuilt}
+use Rattle.model.specs.Refusals.{where0, slotChecks, pairChecks, noRoom, refusals}
 use Rattle.model.specs.RegistryStep.{admitContainer, admitPolicy, admitEntry, takePolicy, acceptedStep, unlessRefused, registryStep}
 use Rattle.model.proofs.Tables.{at-lowest, full-lowest, free-at, beyond-ltb}
 use Rattle.model.proofs.Unchanged.{container-changed, policy-admitted, policy-removed, opened-computed}

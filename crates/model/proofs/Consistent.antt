@@ -2,12 +2,11 @@
 use mathlib.Core.Path.{_≡_, refl, sym, ap, ap₂, _∙_}
 use mathlib.Core.Bool.{Bool, true, false, _&&_, Bool·beq, and-eq-true-iff}
 use mathlib.Core.Logic.{_↔_}
-use mathlib.Core.List.{List, [], _∷_}
-use Prim.Native.Nat.{ℕ, zero, suc, _+_, _<_, _≤_}
+use Prim.Native.Nat.{ℕ, zero, suc, _+_, _<_}
 use native.Mathlib.Nat.{not-suc-le-zero, zero-add}
 use native.Mathlib.Omega.{arith}
 use Rattle.model.specs.Table.{all, upFrom, below}
-use Rattle.model.specs.Model.{containerSlots, policySlots, Model, Bits, computedBits}
+use Rattle.model.specs.Model.{containerSlots, policySlots, Model, computedBits}
 use Rattle.model.specs.Registry.{Registry, computed, sameBits, consistent, Agree, FollowsRules}
 
 beq-true : (a b : Bool) → Bool·beq a b ≡ true → a ≡ b

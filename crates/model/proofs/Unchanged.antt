@@ -1,5 +1,5 @@
 -- A bit that a change does not set anew is by the rules what it was: so each change keeps a registry computed. Assumes nothing.
-use mathlib.Core.Path.{_≡_, refl, sym, ap, fun-ext}
+use mathlib.Core.Path.{_≡_, refl, fun-ext}
 use mathlib.Core.Bool.{Bool, true, false, not, _&&_, _||_, cond}
 use mathlib.Core.List.{List, [], _∷_}
 use mathlib.Core.Option.{Option, none, some}
@@ -9,11 +9,11 @@ use lib.ListN.{getD, set, replicate}
 use lib.Seq.{getD-set-other}
 use borrow.Author.Tests.{eqb-false}
 use Rattle.block.specs.Entry.{Container, Direction, ingress, egress, Policy, Settings}
-use Rattle.model.specs.Table.{Table, any, on, at}
+use Rattle.model.specs.Table.{any, on, at}
 use Rattle.model.specs.Rules.{selects, allows, sameDirection, someSelects, someAllows, lets, reaches}
-use Rattle.model.specs.Model.{Model, empty, withContainer, withPolicy, Bits, matrixBit, selectedBit, allowedBit, computedBits}
+use Rattle.model.specs.Model.{Model, empty, withContainer, withPolicy, matrixBit, selectedBit, allowedBit, computedBits}
 use Rattle.model.proofs.Lists.{neither}
-use Rattle.model.specs.Registry.{Registry, computed, setWhere, changeContainer, touches, touched, changePolicy, opened}
+use Rattle.model.specs.Registry.{computed, setWhere, changeContainer, touches, touched, changePolicy, opened}
 
 and-false : (a b c : Bool) → (a && b) ≡ false → (a && (b && c)) ≡ false
 and-false true b c e = rw e

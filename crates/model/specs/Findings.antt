@@ -1,10 +1,9 @@
 -- The seven findings: over the standing entries of a model, and bits. Assumes nothing.
-use mathlib.Core.Bool.{Bool, true, false, not, _&&_, _||_, cond}
+use mathlib.Core.Bool.{Bool, not, _&&_, _||_, cond}
 use mathlib.Core.List.{List, [], _∷_, _++_}
 use mathlib.Core.Option.{Option, none, some}
 use Prim.Native.Nat.{ℕ, zero, suc, _+_}
-use lib.Dec.{eqb, ltb, leb}
-use Rattle.block.specs.Entry.{Container, Policy}
+use lib.Dec.{eqb, ltb}
 use Rattle.model.specs.declared.Finding.{Finding}
 use Rattle.model.specs.Table.{any, all, count, first, on, at, stands, standing, below}
 use Rattle.model.specs.Rules.{carries, sameDirection}

@@ -1,13 +1,12 @@
 -- The reference model's step: document 01, "The plain book of demand 3". It knows of no stored bit and of no memory.
 -- Assumes nothing.
-use mathlib.Core.Bool.{Bool, true, false, _&&_, cond}
-use mathlib.Core.List.{List}
+use mathlib.Core.Bool.{true, _&&_, cond}
 use mathlib.Core.Option.{Option, none, some}
 use Prim.Native.Nat.{ℕ}
 use lib.Dec.{ltb}
 use lib.ListN.{length}
 use Rattle.block.specs.Entry.{Container, Policy, Settings, Entry, container, policy}
-use Rattle.block.specs.Refusal.{Refusal, Read, refused, accepted}
+use Rattle.block.specs.Refusal.{Read, refused, accepted}
 use Rattle.block.specs.Reader.{readSettings, readEntry}
 use Rattle.model.specs.Table.{at, lowestFree}
 use Rattle.model.specs.Rules.{carries}

@@ -1,5 +1,5 @@
 -- The refusals that each call meets, in their order; 1 and 2 come with memory. Assumes nothing.
-use mathlib.Core.Bool.{Bool, not, _&&_, _||_, cond}
+use mathlib.Core.Bool.{Bool, not, _||_, cond}
 use mathlib.Core.List.{List, [], _∷_, _++_}
 use Prim.Native.Nat.{ℕ, _<_}
 use mathlib.Core.Path.{_≡_}
@@ -7,7 +7,7 @@ use lib.Dec.{eqb, leb}
 use Rattle.block.specs.declared.Fault.{Fault}
 use Rattle.block.specs.declared.Fault.the-variants.{Nowhere, At}
 use Rattle.block.specs.Entry.{Entry, container, policy}
-use Rattle.block.specs.Fault.{unless, orElse}
+use Rattle.block.specs.Fault.{unless}
 use Rattle.block.specs.Refusal.{Check, check}
 use Rattle.block.specs.Reader.{settingsChecks, entryChecks, entryIn}
 use Rattle.model.specs.Table.{Table, free, full}

@@ -1,11 +1,10 @@
 -- The registry: entries and stored bits, and how an accepted change sets them. Assumes nothing.
 use mathlib.Core.Path.{_≡_}
-use mathlib.Core.Bool.{Bool, true, false, _&&_, _||_, cond, Bool·beq}
-use mathlib.Core.List.{List}
+use mathlib.Core.Bool.{Bool, false, _&&_, _||_, cond, Bool·beq}
 use mathlib.Core.Option.{Option}
 use Prim.Native.Nat.{ℕ, _<_}
 use lib.Dec.{eqb}
-use Rattle.block.specs.Entry.{Container, Direction, ingress, egress, Policy, Settings}
+use Rattle.block.specs.Entry.{Container, ingress, egress, Policy, Settings}
 use Rattle.model.specs.Table.{all, on, at, below}
 use Rattle.model.specs.Rules.{selects, sameDirection}
 use Rattle.model.specs.Model.{containerSlots, policySlots, Model, empty, withContainer, withPolicy, Bits, computedBits}

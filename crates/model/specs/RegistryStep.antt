@@ -1,6 +1,4 @@
 -- The registry's step: the refusals that the call meets, then what it does to entries and stored bits. Assumes nothing.
-use mathlib.Core.Bool.{Bool}
-use mathlib.Core.List.{List}
 use mathlib.Core.Option.{Option, none, some}
 use Prim.Native.Nat.{ℕ}
 use lib.ListN.{length}
@@ -9,7 +7,6 @@ use Rattle.block.specs.Refusal.{Refusal, firstRefusal}
 use Rattle.block.specs.Reader.{settingsIn, entryIn}
 use Rattle.model.specs.Table.{on, at, lowestFree}
 use Rattle.model.specs.Rules.{carries}
-use Rattle.model.specs.Model.{Model}
 use Rattle.model.specs.Findings.{containersOf, policiesOf, nextAfter, pairs}
 use Rattle.model.specs.Calls.{Call, openWith, admit, removeContainer, removePolicy, askReaches, askUser, nextFinding, counts, rebuild, audit}
 use Rattle.model.specs.Calls.{Answer, refusal, done, containerAt, policyAt, says, counted, foundAnswer}

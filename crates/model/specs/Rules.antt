@@ -1,7 +1,6 @@
 -- The written rules. Assumes nothing.
 use mathlib.Core.Bool.{Bool, true, false, not, _&&_, _||_}
 use mathlib.Core.List.{List}
-use Prim.Native.Nat.{ℕ}
 use lib.Dec.{eqb}
 use Rattle.block.specs.Entry.{Label, Container, Direction, ingress, egress, Policy}
 use Rattle.model.specs.Table.{Table, any, all, on}

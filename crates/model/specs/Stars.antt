@@ -2,7 +2,7 @@
 use mathlib.Core.Path.{_≡_}
 use mathlib.Core.Bool.{Bool, true, false, not, _&&_, cond, Bool·beq}
 use mathlib.Core.List.{List, [], _∷_}
-use mathlib.Core.Option.{Option, none, some}
+use mathlib.Core.Option.{none, some}
 use Prim.Native.Nat.{ℕ, _-_}
 use lib.Dec.{eqb}
 use lib.ListN.{replicate}
@@ -13,7 +13,7 @@ use Rattle.block.specs.Reader.{readEntry}
 use Rattle.block.specs.Written.{sealed}
 use Rattle.model.specs.declared.Finding.{Finding}
 use Rattle.model.specs.Table.{Table, any, all}
-use Rattle.model.specs.Model.{containerSlots, policySlots, Model, Bits, matrixBit, computedBits}
+use Rattle.model.specs.Model.{containerSlots, policySlots, Model, matrixBit, computedBits}
 use Rattle.model.specs.Findings.{finding, containersOf, findings, pairs}
 use Rattle.model.specs.Registry.{Registry, changePolicy}
 

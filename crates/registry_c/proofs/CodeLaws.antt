@@ -1,5 +1,5 @@
 -- What a call answers, as its number; and that the counts fit. Assumes nothing.
-use mathlib.Core.Path.{_≡_, refl, sym, ap, _∙_}
+use mathlib.Core.Path.{_≡_, refl, ap, _∙_}
 use mathlib.Core.Bool.{Bool, true, false, cond}
 use mathlib.Core.List.{List, [], _∷_}
 use mathlib.Core.Option.{none, some}
@@ -8,8 +8,8 @@ use native.Mathlib.Omega.{arith}
 use lib.Dec.{eqb}
 use lib.ListN.{length}
 use borrow.Author.Tests.{eqb-true, eqb-false}
-use Rattle.model.specs.Table.{Table, count, standing, standingFrom, upFrom, below}
-use Rattle.model.specs.Model.{containerSlots, policySlots, Bits}
+use Rattle.model.specs.Table.{Table, count, standingFrom, upFrom, below}
+use Rattle.model.specs.Model.{containerSlots, Bits}
 use Rattle.model.specs.Findings.{containersOf, policiesOf, pairsIn, pairs}
 use Rattle.model.specs.Calls.{Call, counts, Answer, refusal, counted}
 use Rattle.steps.specs.MemoryStep.{memoryStep}

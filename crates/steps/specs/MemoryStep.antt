@@ -8,7 +8,6 @@ use lib.ListN.{length}
 use Rattle.block.specs.Refusal.{Refusal, Check, check, firstRefusal}
 use Rattle.model.specs.Calls.{Call, openWith, admit, removeContainer, removePolicy, askReaches, askUser, nextFinding, counts, rebuild, audit}
 use Rattle.model.specs.Calls.{Answer, refusal}
-use Rattle.model.specs.Registry.{Registry}
 use Rattle.model.specs.Refusals.{where0, refusals}
 use Rattle.model.specs.RegistryStep.{acceptedStep}
 use Rattle.store.specs.Layout.{memoryWords}

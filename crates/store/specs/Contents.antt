@@ -4,7 +4,6 @@ use mathlib.Core.Bool.{Bool, cond}
 use mathlib.Core.List.{List, [], _∷_}
 use Prim.Native.Nat.{ℕ, zero, suc, _+_, _*_, _-_, _/_, _%_, _<_}
 use lib.Dec.{ltb}
-use lib.ListN.{length, getD}
 use Rattle.bitrow.specs.Set.{one}
 use Rattle.store.specs.Layout.{memoryWords, rowsStart, Whole, wordAt, rowBit}
 

@@ -1,6 +1,6 @@
 -- `store::set_column` meets its contract. Assumes nothing.
 use mathlib.Core.Path.{_≡_, refl, ap, _∙_}
-use Prim.Native.Nat.{_+_, _*_, _≤_, _-_, _<_}
+use Prim.Native.Nat.{_≤_, _-_}
 use native.Mathlib.Omega.{arith}
 use lib.ListN.{length}
 use Rattle.store.specs.Memory.{columnSet}
