@@ -43,7 +43,7 @@ use Rattle.reach.proofs.Candidates.{policies-length}
 use Rattle.changes.specs.Labels.{unpacked}
 use Rattle.changes.proofs.LabelLaws.{padded-at, unpacked-back}
 use Rattle.changes.proofs.StoredLaws.{Fit, ltb-step, stored-matrix, stored-selected, stored-allowed, stored-cong}
-use Rattle.changes.specs.PolicyChange.{policyOf, PolicyWords, SaysPolicy, SlotWords, Admissible, placed, settled, Settles, resetWhere, pairs, masked, RowReset, selection, ResetsFor}
+use Rattle.changes.specs.PolicyChange.{policyOf, PolicyWords, SaysPolicy, SlotWords, Admissible, placed, settled, Settles, resetWhere, product, masked, RowReset, selection, ResetsFor}
 
 -- ---- rows
 
@@ -293,7 +293,7 @@ module _ (m row : List ℕ) (a : ℕ) (mask rule : ℕ → Bool) (ha : a < 256) 
 
 -- the pairs of s and t in the rows below n
 abbrev below : ℕ → (ℕ → Bool) → (ℕ → Bool) → ℕ → ℕ → Bool
-below n s t a b = ltb a n && pairs s t a b
+below n s t a b = ltb a n && product s t a b
 
 -- the first n rows are reset
 pub record Resets (r : Registry) (s t : ℕ → Bool) (m : List ℕ) (n : ℕ) : Type 0 where
@@ -324,13 +324,13 @@ module _ (r : Registry) (s t : ℕ → Bool) where
   pub resets-none : {m : List ℕ} → Holds m (contentsOf r) → Fit m → Resets r s t m 0
   resets-none h fit = record {
     most = omega arith;
-    held = holds-as h _ (named-none r (below 0 s t) (λ x y a b. ap (λ (u : Bool). u && pairs s t x y) (le-ltb x 0 (omega arith))));
+    held = holds-as h _ (named-none r (below 0 s t) (λ x y a b. ap (λ (u : Bool). u && product s t x y) (le-ltb x 0 (omega arith))));
     fit = fit;
   }
 
   module _ {m : List ℕ} {n : ℕ} (g : Resets r s t m n) (hn : n < 256) where
     below-skip : s n ≡ false → (x y : ℕ) → Dec (x ≡ n) → below n s t x y ≡ below (n + 1) s t x y
-    unfolding pairs
+    unfolding product
     below-skip f x y (yes e) =
         ap (λ (u : Bool). ltb x n && (u && t y)) (ap s e ∙ f) ∙ and-false (ltb x n) ∙ sym (ap (λ (u : Bool). ltb x (n + 1) && (u && t y)) (ap s e ∙ f) ∙ and-false (ltb x (n + 1)))
     below-skip f x y (no d) = ap (λ (u : Bool). u && (s x && t y)) (ltb-step x n d)
@@ -349,7 +349,7 @@ module _ (r : Registry) (s t : ℕ → Bool) where
     after = resetWhere r (below (n + 1) s t)
 
     taken-here : s n ≡ true → (y : ℕ) → storedBit (after .bits) n y ≡ masked t (matrixBit (r .model) n) (contentsOf before .bits n) y
-    unfolding contentsOf resetWhere setWhere masked pairs
+    unfolding contentsOf resetWhere setWhere masked product
     taken-here f y =
         point (stored-matrix (after .bits) n hn) y ∙ ap₂ (λ (u v : Bool). bit r (u && (v && t y)) n y) (lt-ltb n (n + 1) (omega arith)) f
         ∙ sym (ap (λ (o : Bool). cond (t y) (matrixBit (r .model) n y) o) (point (stored-matrix (before .bits) n hn) y ∙ ap (λ (u : Bool). bit r (u && (s n && t y)) n y) (le-ltb n n (omega arith))))
@@ -359,14 +359,14 @@ module _ (r : Registry) (s t : ℕ → Bool) where
     resets-take f {m′} {rule} w e fit = record {
       most = omega arith;
       held = holds-as (subst (RowReset m m′ n t) e w .holds (contentsOf before) (g .held)) (contentsOf after) (row-same before after n _ refl (taken-here f)
-          (λ x y d. stored-cong (before .bits) (after .bits) x y (λ l. ap (λ (u : Bool). bit r (u && pairs s t x y) x y) (ltb-step x n d)) (λ l z. refl) (λ l z. refl)));
+          (λ x y d. stored-cong (before .bits) (after .bits) x y (λ l. ap (λ (u : Bool). bit r (u && product s t x y) x y) (ltb-step x n d)) (λ l z. refl) (λ l z. refl)));
       fit = fit;
     }
 
-  pub resets-all : {m : List ℕ} {n : ℕ} → Resets r s t m n → 256 ≤ n → m ≡ image (resetWhere r (pairs s t))
+  pub resets-all : {m : List ℕ} {n : ℕ} → Resets r s t m n → 256 ≤ n → m ≡ image (resetWhere r (product s t))
   resets-all {m} {n} g h =
-      written (resetWhere r (pairs s t)) m (holds-as (g .held) _ (named-same r (below n s t) (pairs s t)
-      (λ x y l. ap (λ (u : Bool). u && pairs s t x y) (lt-ltb x n (omega arith))))) (g .fit)
+      written (resetWhere r (product s t)) m (holds-as (g .held) _ (named-same r (below n s t) (product s t)
+      (λ x y l. ap (λ (u : Bool). u && product s t x y) (lt-ltb x n (omega arith))))) (g .fit)
 
 -- ---- the pairs that a policy touches
 
@@ -379,8 +379,8 @@ number-ingress ingress n = refl
 number-ingress egress n = absurd (n refl)
 
 module _ (m : Model) (p : Policy) where
-  touched-egress : p .direction ≡ egress → pairs (selection m p) (stands (m .containers)) ≡ touched m p
-  unfolding pairs selection touched touches sameDirection selects
+  touched-egress : p .direction ≡ egress → product (selection m p) (stands (m .containers)) ≡ touched m p
+  unfolding product selection touched touches sameDirection selects
   touched-egress e = fun-ext (λ a. fun-ext (λ b. go (at (m .containers) a) (at (m .containers) b)))
     where
       go : (o z : Option Container) → (on (selects p) o && on (λ y. true) z) ≡ on (λ x. on (λ y. touches p x y) z) o
@@ -388,8 +388,8 @@ module _ (m : Model) (p : Policy) where
       go (some x) none = and-false (selects p x)
       go (some x) (some y) = rw e (and-true (selects p x) ∙ sym (or-false (selects p x)))
 
-  touched-ingress : p .direction ≡ ingress → pairs (stands (m .containers)) (selection m p) ≡ touched m p
-  unfolding pairs selection touched touches sameDirection
+  touched-ingress : p .direction ≡ ingress → product (stands (m .containers)) (selection m p) ≡ touched m p
+  unfolding product selection touched touches sameDirection
   touched-ingress e = fun-ext (λ a. fun-ext (λ b. go (at (m .containers) a) (at (m .containers) b)))
     where
       go : (o z : Option Container) → (on (λ x. true) o && on (selects p) z) ≡ on (λ x. on (λ y. touches p x y) z) o
@@ -398,22 +398,22 @@ module _ (m : Model) (p : Policy) where
       go (some x) (some y) = rw e
 
 module _ (m : List ℕ) {m′ : List ℕ} (d : ℕ) (s t : ℕ → Bool) (g : t ≡ stands (modelIn m .containers)) where
-  pub resets-egress : d ≡ 2 → m′ ≡ image (resetWhere (registryIn m) (pairs s t)) → ResetsFor m d s m′
+  pub resets-egress : d ≡ 2 → m′ ≡ image (resetWhere (registryIn m) (product s t)) → ResetsFor m d s m′
   resets-egress z h = record {
     says = λ p e f. h ∙ ap (λ (n : ℕ → ℕ → Bool). image (resetWhere (registryIn m) n))
-        (ap₂ pairs f g ∙ touched-egress (modelIn m) p (number-egress (p .direction) (sym e ∙ z)));
+        (ap₂ product f g ∙ touched-egress (modelIn m) p (number-egress (p .direction) (sym e ∙ z)));
   }
 
-  pub resets-ingress : (d ≡ 2 → ⊥) → m′ ≡ image (resetWhere (registryIn m) (pairs t s)) → ResetsFor m d s m′
+  pub resets-ingress : (d ≡ 2 → ⊥) → m′ ≡ image (resetWhere (registryIn m) (product t s)) → ResetsFor m d s m′
   resets-ingress z h = record {
     says = λ p e f. h ∙ ap (λ (n : ℕ → ℕ → Bool). image (resetWhere (registryIn m) n))
-        (ap₂ pairs g f ∙ touched-ingress (modelIn m) p (number-ingress (p .direction) (λ y. z (e ∙ y))));
+        (ap₂ product g f ∙ touched-ingress (modelIn m) p (number-ingress (p .direction) (λ y. z (e ∙ y))));
   }
 
 -- a policy that selects nobody touches nothing
 module _ (m : List ℕ) (ok : wellFormed m ≡ true) (p : Policy) (none-selected : hasSome (selection (modelIn m) p) ≡ false) where
   untouched : (d : Direction) → p .direction ≡ d → (a b : ℕ) → a < 256 → b < 256 → touched (modelIn m) p a b ≡ false
-  unfolding pairs
+  unfolding product
   untouched egress e a b ha hb =
       sym (point (point-row (touched-egress (modelIn m) p e) a) b) ∙ ap (λ (u : Bool). u && stands (modelIn m .containers) b) (hasSome-absent (selection (modelIn m) p) none-selected a ha)
   untouched ingress e a b ha hb =

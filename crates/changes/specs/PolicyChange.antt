@@ -84,8 +84,8 @@ resetWhere r named = record {
 }
 
 -- the pairs of one of s and one of t
-unfoldable pub pairs : (ℕ → Bool) → (ℕ → Bool) → ℕ → ℕ → Bool
-pairs s t a b = s a && t b
+unfoldable pub product : (ℕ → Bool) → (ℕ → Bool) → ℕ → ℕ → Bool
+product s t a b = s a && t b
 
 -- a row with the bits of the mask made the rule's
 unfoldable pub masked : (ℕ → Bool) → (ℕ → Bool) → (ℕ → Bool) → ℕ → Bool

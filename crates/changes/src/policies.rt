@@ -11,7 +11,7 @@ ghost use Rattle.store.specs.Layout.{Whole};
 ghost use Rattle.formed.specs.Words.{policyAt};
 ghost use Rattle.formed.specs.Registry.{modelIn, registryIn, image, wellFormed};
 ghost use Rattle.reach.specs.Lets.{bits, union, line};
-ghost use Rattle.changes.specs.PolicyChange.{policyOf, PolicyWords, SaysPolicy, SlotWords, SomeSlot, Settles, RowReset, pairs, resetWhere, ResetsFor};
+ghost use Rattle.changes.specs.PolicyChange.{policyOf, PolicyWords, SaysPolicy, SlotWords, SomeSlot, Settles, RowReset, product, resetWhere, ResetsFor};
 
 // What policy q selects.
 fn selected_row(memory: &[u64], q: usize) -> [u64; 4]
@@ -92,7 +92,7 @@ fn reset_row(
 // The bits of the matrix in these rows and columns, set by the rules from the entries.
 fn reset_rows(memory: &mut [u64], rows: [u64; 4], columns: [u64; 4])
     requires { ⌜ wellFormed (now memory) ≡ true ⌝ }
-    ensures { λ u. ⌜ now (memory .exit) ≡ image (resetWhere (registryIn (now (memory .entry))) (pairs (bitAt rows) (bitAt columns))) ⌝ }
+    ensures { λ u. ⌜ now (memory .exit) ≡ image (resetWhere (registryIn (now (memory .entry))) (product (bitAt rows) (bitAt columns))) ⌝ }
 {
     let selected = reach::sets::selected_sets(memory);
     let allowed = reach::sets::allowed_sets(memory);

@@ -157,14 +157,14 @@ module _ (m : List ℕ) where
 
   -- a part with no labels matches every candidate
   pub trial-all : (part : ℕ) (s : ℕ → Bool) → wordAt m part ≤ 1 → trialSet m part s ≡ s
-  unfolding matching matches partIn
+  unfolding matching matchingFrom matches partIn
   trial-all part s h =
       let e : wordAt m part - 1 ≡ 0 = omega arith in
       fun-ext λ c. meet-at s (matching m part) c ∙ ap (λ n. s c && matches (labelsIn m (part + 1) n) (partIn m (containerStart c))) e ∙ and-true (s c)
 
   -- over the standing containers
   trial-standing : (part c : ℕ) → trialSet m part (stands (modelIn m .containers)) c ≡ on (matches (partIn m part)) (at (modelIn m .containers) c)
-  unfolding matching
+  unfolding matching matchingFrom
   trial-standing part c = meet-at (stands (modelIn m .containers)) (matching m part) c ∙ container-on (matches (partIn m part)) c
 
   module _ (q : ℕ) (h : stands (modelIn m .policies) q ≡ true) where

@@ -9,7 +9,7 @@ use Rattle.block.specs.Entry.{Label}
 use Rattle.bitrow.specs.Set.{meet}
 use Rattle.model.specs.Model.{containerSlots, policySlots}
 use Rattle.model.specs.Rules.{matches}
-use Rattle.store.specs.Layout.{wordAt, containerStart, policyStart}
+use Rattle.store.specs.Layout.{wordAt, containersStart, containerStart, policyStart}
 use Rattle.formed.specs.declared.entries.FreeContainer.{FreeContainer}
 use Rattle.formed.specs.declared.entries.FreeContainer.the-variants as container
 use Rattle.formed.specs.declared.entries.FreePolicy.{FreePolicy}
@@ -27,10 +27,6 @@ pub record HeadsBound (m : List ℕ) : Type 0 where
   pub select : (q : ℕ) → q < policySlots → wordAt m (policyStart q + 1) ≤ 5
   pub allow : (q : ℕ) → q < policySlots → wordAt m (policyStart q + 6) ≤ 5
 
--- the container slots that carry every label of the part whose header is at `part`
-unfoldable pub matching : List ℕ → ℕ → ℕ → Bool
-matching m part c = matches (partIn m part) (partIn m (containerStart c))
-
 -- 64 slots of nine words each, from `at` on, whose parts lie within the memory
 pub record SlotsOfParts (m : List ℕ) (at : ℕ) : Type 0 where
   pub slot : (i : ℕ) → i < 64 → PartWithin m (at + 9 * i)
@@ -38,6 +34,10 @@ pub record SlotsOfParts (m : List ℕ) (at : ℕ) : Type 0 where
 -- those of slots nine words apart, from `at` on, that carry every label of the part whose header is at `part`
 unfoldable pub matchingFrom : List ℕ → ℕ → ℕ → ℕ → Bool
 matchingFrom m part at i = matches (partIn m part) (partIn m (at + 9 * i))
+
+-- the container slots that carry them
+unfoldable pub matching : List ℕ → ℕ → ℕ → Bool
+matching m part = matchingFrom m part containersStart
 
 -- the trial of a part: those of the candidates that it matches
 abbrev pub trialSet : List ℕ → ℕ → (ℕ → Bool) → ℕ → Bool

@@ -4,18 +4,20 @@
 use mathlib.Core.Bool.{cond}
 use mathlib.Core.List.{List, [], _∷_, map}
 use mathlib.Core.Option.{Option, none, some}
-use Prim.Native.Nat.{ℕ, zero, suc, _+_, _*_, _-_, _/_, _%_}
+use Prim.Native.Nat.{ℕ, zero, suc, _+_, _-_, _/_, _%_}
 use lib.Dec.{eqb, ltb}
 use lib.ListN.{length, getD}
 use Rattle.block.specs.Entry.{Label, Container, Policy, Settings}
 use Rattle.block.specs.Reader.{directionOf}
+use Rattle.block.specs.Reading.{word}
 use Rattle.block.specs.Written.{directionNumber}
 use Rattle.store.specs.Layout.{wordAt, containerStart, policyStart}
 
 -- ---- from entries to words
 
+-- as the reader of blocks hands it over
 unfoldable pub labelWord : Label → ℕ
-labelWord l = l .key * 65536 + l .value
+labelWord l = word l
 
 -- word k of a part
 unfoldable pub partWord : List Label → ℕ → ℕ

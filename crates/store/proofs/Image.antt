@@ -12,7 +12,7 @@ use Rattle.bitrow.specs.Bit.{digit, bit}
 use Rattle.bitrow.specs.Set.{one}
 use Rattle.bitrow.proofs.Words.{bit-shr, word-ext}
 use Rattle.store.specs.Layout.{memoryWords, rowsStart, rowStart, wordAt, rowBit}
-use Rattle.store.specs.Contents.{Contents, Holds, tab, packed, imageWord, imageOf}
+use Rattle.store.specs.Contents.{Contents, Holds, tab, ofBits, imageWord, imageOf}
 use Rattle.store.proofs.Carried.{SameContents}
 use Rattle.store.proofs.Cases.{by-ltb}
 
@@ -55,10 +55,10 @@ digit-one : (b : Bool) → digit (one b) ≡ b
 digit-one true = refl
 digit-one false = refl
 
-pub packed-lt : (n : ℕ) (f : ℕ → Bool) → packed n f < 2 ^ n
-unfolding packed
-packed-lt zero f = omega arith
-packed-lt (suc n) f = omega (arith, packed-lt n (λ (i : ℕ). f (suc i)), two-pow-succ n, one-lt (f 0))
+pub of-bits-lt : (n : ℕ) (f : ℕ → Bool) → ofBits n f < 2 ^ n
+unfolding ofBits
+of-bits-lt zero f = omega arith
+of-bits-lt (suc n) f = omega (arith, of-bits-lt n (λ (i : ℕ). f (suc i)), two-pow-succ n, one-lt (f 0))
 
 bit-first : (p : ℕ) (b : Bool) → bit (2 * p + one b) 0 ≡ b
 unfolding bit
@@ -70,19 +70,19 @@ bit-next p b i =
     let q : w / 2 ^ 1 ≡ p = omega (arith, one-lt b) in
     ap (bit w) (omega arith) ∙ sym (bit-shr w 1 i) ∙ ap (λ (x : ℕ). bit x i) q
 
-pub bit-packed : (n : ℕ) (f : ℕ → Bool) (i : ℕ) → i < n → bit (packed n f) i ≡ f i
-unfolding packed
-bit-packed zero f i h = absurd (not-suc-le-zero h)
-bit-packed (suc n) f zero h = bit-first (packed n (λ (i : ℕ). f (suc i))) (f 0)
-bit-packed (suc n) f (suc i) h =
-    bit-next (packed n (λ (i : ℕ). f (suc i))) (f 0) i ∙ bit-packed n (λ (i : ℕ). f (suc i)) i (le-of-suc-le-suc h)
+pub bit-of : (n : ℕ) (f : ℕ → Bool) (i : ℕ) → i < n → bit (ofBits n f) i ≡ f i
+unfolding ofBits
+bit-of zero f i h = absurd (not-suc-le-zero h)
+bit-of (suc n) f zero h = bit-first (ofBits n (λ (i : ℕ). f (suc i))) (f 0)
+bit-of (suc n) f (suc i) h =
+    bit-next (ofBits n (λ (i : ℕ). f (suc i))) (f 0) i ∙ bit-of n (λ (i : ℕ). f (suc i)) i (le-of-suc-le-suc h)
 
 -- a word is what its bits make
-pub is-packed : (n w : ℕ) (f : ℕ → Bool) → w < 2 ^ n → ((i : ℕ) → i < n → bit w i ≡ f i) → w ≡ packed n f
-is-packed n w f h e = word-ext n w (packed n f) h (packed-lt n f) (λ i b. e i b ∙ sym (bit-packed n f i b))
+pub is-packed : (n w : ℕ) (f : ℕ → Bool) → w < 2 ^ n → ((i : ℕ) → i < n → bit w i ≡ f i) → w ≡ ofBits n f
+is-packed n w f h e = word-ext n w (ofBits n f) h (of-bits-lt n f) (λ i b. e i b ∙ sym (bit-of n f i b))
 
-pub packed-cong : (n : ℕ) (f g : ℕ → Bool) → ((i : ℕ) → i < n → f i ≡ g i) → packed n f ≡ packed n g
-packed-cong n f g h = is-packed n (packed n f) g (packed-lt n f) (λ i b. bit-packed n f i b ∙ h i b)
+pub packed-cong : (n : ℕ) (f g : ℕ → Bool) → ((i : ℕ) → i < n → f i ≡ g i) → ofBits n f ≡ ofBits n g
+packed-cong n f g h = is-packed n (ofBits n f) g (of-bits-lt n f) (λ i b. bit-of n f i b ∙ h i b)
 
 -- ---- the memory that holds given contents
 
@@ -105,7 +105,7 @@ pub holds-image : {m : List ℕ} {c : Contents} → Holds m c → ((k : ℕ) →
 unfolding imageOf imageWord
 holds-image {m} {c} h fit =
     is-tab memoryWords (imageWord c) m 0 (h .whole) (λ k l.
-    by-ltb (λ t. wordAt m k ≡ cond t (c .words k) (packed 64 (wordBits c k))) k rowsStart
+    by-ltb (λ t. wordAt m k ≡ cond t (c .words k) (ofBits 64 (wordBits c k))) k rowsStart
     (λ g. h .words k g)
     (λ g. is-packed 64 (wordAt m k) (wordBits c k) (fit k) (λ i b. sym (row-place m k i g b) ∙ h .bits ((k - rowsStart) / 4) ((k - rowsStart) % 4 * 64 + i) (omega arith) (omega arith))))
 
@@ -122,7 +122,7 @@ module _ (c : Contents) where
   unfolding imageWord
   image-entry k h = image-word k (omega arith) ∙ (rw (lt-ltb k rowsStart h))
 
-  pub image-packed : (k : ℕ) → rowsStart ≤ k → k < memoryWords → wordAt (imageOf c) k ≡ packed 64 (wordBits c k)
+  pub image-packed : (k : ℕ) → rowsStart ≤ k → k < memoryWords → wordAt (imageOf c) k ≡ ofBits 64 (wordBits c k)
   unfolding imageWord
   image-packed k g h = image-word k h ∙ (rw (le-ltb k rowsStart g))
 
@@ -132,7 +132,7 @@ module _ (c : Contents) where
       let k = rowStart r + y / 64 in
       let a : (k - rowsStart) / 4 ≡ r = omega arith in
       let b : (k - rowsStart) % 4 * 64 + y % 64 ≡ y = omega arith in
-      ap (λ (w : ℕ). bit w (y % 64)) (image-packed k (omega arith) (omega arith)) ∙ bit-packed 64 (wordBits c k) (y % 64) (omega arith) ∙ ap₂ (c .bits) a b
+      ap (λ (w : ℕ). bit w (y % 64)) (image-packed k (omega arith) (omega arith)) ∙ bit-of 64 (wordBits c k) (y % 64) (omega arith) ∙ ap₂ (c .bits) a b
 
   -- the image holds them
   pub image-holds : Holds (imageOf c) c
@@ -143,7 +143,7 @@ module _ (c : Contents) where
   unfolding imageOf
   image-rows-fit k g =
       by-ltb (λ t. wordAt (imageOf c) k < 2 ^ 64) k memoryWords
-      (λ h. omega (arith, image-packed k g h, packed-lt 64 (wordBits c k)))
+      (λ h. omega (arith, image-packed k g h, of-bits-lt 64 (wordBits c k)))
       (λ h. omega (arith, tab-beyond memoryWords (imageWord c) k 0 h))
 
   pub image-fits : ((k : ℕ) → k < rowsStart → c .words k < 2 ^ 64) → (k : ℕ) → wordAt (imageOf c) k < 2 ^ 64
@@ -156,6 +156,6 @@ pub image-same : (c d : Contents) → SameContents c d → imageOf c ≡ imageOf
 unfolding imageOf imageWord
 image-same c d s =
     tab-cong memoryWords (imageWord c) (imageWord d) (λ k l.
-    by-ltb (λ t. cond t (c .words k) (packed 64 (wordBits c k)) ≡ cond t (d .words k) (packed 64 (wordBits d k))) k rowsStart
+    by-ltb (λ t. cond t (c .words k) (ofBits 64 (wordBits c k)) ≡ cond t (d .words k) (ofBits 64 (wordBits d k))) k rowsStart
     (λ h. s .words k h)
     (λ h. packed-cong 64 (wordBits c k) (wordBits d k) (λ i b. s .bits ((k - rowsStart) / 4) ((k - rowsStart) % 4 * 64 + i) (omega arith) (omega arith))))

@@ -22,14 +22,14 @@ tab zero f = []
 tab (suc n) f = f 0 ∷ tab n (λ (i : ℕ). f (suc i))
 
 -- the word of n bits that f gives, bit 0 first
-unfoldable pub packed : ℕ → (ℕ → Bool) → ℕ
-packed zero f = 0
-packed (suc n) f = 2 * packed n (λ (i : ℕ). f (suc i)) + one (f 0)
+unfoldable pub ofBits : ℕ → (ℕ → Bool) → ℕ
+ofBits zero f = 0
+ofBits (suc n) f = 2 * ofBits n (λ (i : ℕ). f (suc i)) + one (f 0)
 
 unfoldable pub imageWord : Contents → ℕ → ℕ
 imageWord c k =
     cond (ltb k rowsStart) (c .words k)
-    (packed 64 (λ (i : ℕ). c .bits ((k - rowsStart) / 4) ((k - rowsStart) % 4 * 64 + i)))
+    (ofBits 64 (λ (i : ℕ). c .bits ((k - rowsStart) / 4) ((k - rowsStart) % 4 * 64 + i)))
 
 -- the memory that holds it, word for word
 unfoldable pub imageOf : Contents → List ℕ
