@@ -1,10 +1,17 @@
 // Reads blocks from standard input: the first opens, the others are admitted. Writes each refusal at once, then the counts and
 // the findings.
 ghost use mathlib.Core.Path.{_≡_};
-ghost use mathlib.Core.Bool.{true};
+ghost use mathlib.Core.Bool.{true, false};
+ghost use mathlib.Core.Option.{none};
 ghost use Prim.Native.Nat.{_+_, _≤_, _<_};
 ghost use lib.ListN.{length};
 ghost use Rattle.formed.specs.Registry.{wellFormed};
+ghost use Rattle.findings.specs.Steps.{placeOf};
+ghost use Rattle.steps.specs.MemoryStep.{memoryStep};
+ghost use Rattle.model.specs.Calls.{openWith, admit};
+ghost use Rattle.lister.specs.Input.{oneMore, numbered, taken, takenAll, blockEnd, blocksOf};
+ghost use Rattle.lister.specs.Text.{Puts};
+ghost use Rattle.lister.specs.Sheet.{findingLine, nextIn, PutsLines};
 use findings::Cursor;
 use findings::Step;
 use libc::STDIN_FILENO;
@@ -15,64 +22,97 @@ use registry::Opened;
 
 mod text;
 
-// How many blocks came so far, and whether the first of them opened.
+// How many blocks came so far, whether the first of them opened, and the last one's refusal, 0 where there is none.
 struct State {
     blocks: u64,
     opened: bool,
+    refusal: u64,
 }
 
 // The number after n. The last one, which no run comes to, stays.
-fn after(n: u64) -> u64 {
+fn after(n: u64) -> u64
+    ensures { λ r. ⌜ r ≡ oneMore n ⌝ }
+{
     if n < u64::MAX { n + 1 } else { n }
 }
 
-// Opens by a block; answers whether that was accepted.
-fn open(memory: &mut [u64], block: &[u8]) -> bool {
+// Opens by a block; answers the refusal's number, 0 where there is none.
+fn open(memory: &mut [u64], block: &[u8]) -> u64
+    ensures { λ r. ⌜ (now (memory .exit), r) ≡ numbered (memoryStep (now (memory .entry)) (openWith (now (block .entry)))) ⌝ }
+{
     let answer = registry::open(memory, block);
-    let Opened::Refused(why) = answer else {
-        return true;
-    };
-    text::write_refusal(1, registry::number(why));
-    false
+    match answer {
+        Opened::Refused(why) => registry::number(why),
+        Opened::Done => 0,
+    }
 }
 
-// Admits the block with this number.
-fn admit(memory: &mut [u64], block: &[u8], at: u64) {
+// Admits a block; answers likewise.
+fn admit(memory: &mut [u64], block: &[u8]) -> u64
+    ensures { λ r. ⌜ (now (memory .exit), r) ≡ numbered (memoryStep (now (memory .entry)) (admit (now (block .entry)))) ⌝ }
+{
     let answer = registry::admit(memory, block);
-    if let Admitted::Refused(why) = answer {
-        text::write_refusal(at, registry::number(why));
+    match answer {
+        Admitted::Refused(why) => registry::number(why),
+        Admitted::Container(_) => 0,
+        Admitted::Policy(_) => 0,
     }
 }
 
 // Takes a block. Where the first was refused, the others are passed over.
-fn take_block(memory: &mut [u64], block: &[u8], state: State) -> State {
-    let at = after(state.blocks);
-    if at == 1 {
-        let opened = open(memory, block);
-        return State { blocks: at, opened };
+fn take_block(memory: &mut [u64], block: &[u8], state: State) -> State
+    ensures { λ r. ⌜ (now (memory .exit), r) ≡ taken (now (memory .entry)) state (now (block .entry)) ⌝ }
+{
+    let blocks = after(state.blocks);
+    if state.blocks == 0 {
+        let refusal = open(memory, block);
+        return State {
+            blocks,
+            opened: refusal == 0,
+            refusal,
+        };
     }
-    let opened = state.opened;
-    if opened {
-        admit(memory, block, at);
+    if !state.opened {
+        return State {
+            blocks,
+            opened: false,
+            refusal: 0,
+        };
     }
-    State { blocks: at, opened }
+    let refusal = admit(memory, block);
+    State {
+        blocks,
+        opened: true,
+        refusal,
+    }
+}
+
+// Writes the last block's refusal, where there is one.
+fn write_refusal(state: State) {
+    if state.refusal > 0 {
+        text::write_refusal(state.blocks, state.refusal);
+    }
 }
 
 // Where the block that begins at `at` ends: 512 bytes on, or where the bytes do.
 fn block_end(at: usize, bytes: usize) -> usize
     requires { ⌜ at < bytes ⌝ }
+    ensures { λ r. ⌜ r ≡ blockEnd at bytes ⌝ }
     ensures { λ r. ⌜ (at < r) × (r ≤ bytes) ⌝ }
 {
     if bytes - at < 512 { bytes } else { at + 512 }
 }
 
-// Takes the bytes, block by block.
-fn take_blocks(memory: &mut [u64], bytes: &[u8], first: State) -> State {
+// Takes the bytes, block by block, and writes each refusal at once.
+fn take_blocks(memory: &mut [u64], bytes: &[u8], first: State) -> State
+    ensures { λ r. ⌜ (now (memory .exit), r) ≡ takenAll (now (memory .entry)) first (blocksOf (now (bytes .entry))) ⌝ }
+{
     let mut state = first;
     let mut at = 0;
     while at < bytes.len() {
         let end = block_end(at, bytes.len());
         let next = take_block(memory, &bytes[at..end], state);
+        write_refusal(next);
         state = next;
         at = end;
     }
@@ -101,6 +141,7 @@ fn take_input(memory: &mut [u64], bytes: &mut [u8]) -> State
     let mut state = State {
         blocks: 0,
         opened: false,
+        refusal: 0,
     };
     let mut turns = u64::MAX;
     while turns > 0 {
@@ -121,7 +162,8 @@ fn take_input(memory: &mut [u64], bytes: &mut [u8]) -> State
 // Puts a finding's line.
 fn put_finding(out: &mut [u8], at: usize, finding: Finding) -> usize
     requires { ⌜ at + 63 ≤ length (now out) ⌝ }
-    ensures { λ r. ⌜ r ≤ at + 63 ⌝ }
+    ensures { λ r. ⌜ Puts (now (out .entry)) at (findingLine finding) (now (out .exit)) r ⌝ }
+    ensures { λ r. ⌜ (at < r) × (r ≤ at + 63) ⌝ }
 {
     text::put_line(
         out,
@@ -132,9 +174,43 @@ fn put_finding(out: &mut [u8], at: usize, finding: Finding) -> usize
     )
 }
 
-// Puts the findings after what the buffer holds, and writes it all. The loop counts its turns down, as above.
+// Where some lines of the listing end, the place to go on from, and whether there may be more.
+struct Listed {
+    at: usize,
+    cursor: Cursor,
+    more: bool,
+}
+
+// Puts the lines of the findings after the cursor, as many as find room.
+fn put_findings(memory: &[u64], out: &mut [u8], from: usize, first: Cursor) -> Listed
+    requires { ⌜ (wellFormed (now memory) ≡ true) × (from ≤ length (now out)) ⌝ }
+    ensures { λ r. ⌜ PutsLines (nextIn (now (memory .entry))) (placeOf first) (now (out .entry)) from (now (out .exit)) (r .at) (placeOf (r .cursor)) ⌝ }
+    ensures { λ r. ⌜ (r .at ≤ length (now (out .exit))) × (r .more ≡ false → nextIn (now (memory .entry)) (placeOf (r .cursor)) ≡ none) ⌝ }
+{
+    let mut cursor = first;
+    let mut at = from;
+    while 63 <= out.len() - at {
+        let step = cursor.next(memory);
+        let Step::Found(finding, next) = step else {
+            return Listed {
+                at,
+                cursor,
+                more: false,
+            };
+        };
+        at = put_finding(out, at, finding);
+        cursor = next;
+    }
+    Listed {
+        at,
+        cursor,
+        more: true,
+    }
+}
+
+// Writes what the buffer holds before `from`, and then the findings. The loop counts its turns down, as above.
 fn write_findings(memory: &[u64], out: &mut [u8], from: usize)
-    requires { ⌜ (wellFormed (now memory) ≡ true) × (from + 63 ≤ length (now out)) ⌝ }
+    requires { ⌜ (wellFormed (now memory) ≡ true) × (from ≤ length (now out)) ⌝ }
 {
     let mut cursor = Cursor {
         kind: 0,
@@ -145,15 +221,14 @@ fn write_findings(memory: &[u64], out: &mut [u8], from: usize)
     let mut turns = u64::MAX;
     while turns > 0 {
         turns -= 1;
-        let step = cursor.next(memory);
-        let Step::Found(finding, next) = step else {
+        let listed = put_findings(memory, out, at, cursor);
+        text::write(out, listed.at);
+        if !listed.more {
             break;
-        };
-        let end = put_finding(out, at, finding);
-        at = text::flush(out, end);
-        cursor = next;
+        }
+        cursor = listed.cursor;
+        at = 0;
     }
-    text::write(out, at);
 }
 
 // Writes the counts and the findings. The memory is tested for each of the two, and not for each finding.

@@ -2,11 +2,14 @@
 ghost use mathlib.Core.Path.{_≡_};
 ghost use Prim.Native.Nat.{_+_, _≤_, _<_};
 ghost use lib.ListN.{length};
+ghost use Rattle.lister.specs.Text.{decimal, ended, named, threeNumbers, Puts};
+ghost use Rattle.lister.specs.Sheet.{refusedLine, countsLine};
 use libc::STDOUT_FILENO;
 
 // Puts a word and then a byte at `at`, and answers the position after them.
 pub fn put_word(out: &mut [u8], at: usize, word: &[u8], end: u8) -> usize
     requires { ⌜ at + length (now word) < length (now out) ⌝ }
+    ensures { λ r. ⌜ Puts (now (out .entry)) at (ended (now (word .entry)) end) (now (out .exit)) r ⌝ }
     ensures { λ r. ⌜ r ≡ at + length (now (word .entry)) + 1 ⌝ }
 {
     let n = word.len();
@@ -22,17 +25,29 @@ pub fn put_word(out: &mut [u8], at: usize, word: &[u8], end: u8) -> usize
 // Puts a number in decimal and then a byte.
 pub fn put_number(out: &mut [u8], at: usize, n: u64, end: u8) -> usize
     requires { ⌜ at + 21 ≤ length (now out) ⌝ }
-    ensures { λ r. ⌜ r ≤ at + 21 ⌝ }
+    ensures { λ r. ⌜ Puts (now (out .entry)) at (ended (decimal n) end) (now (out .exit)) r ⌝ }
+    ensures { λ r. ⌜ (at < r) × (r ≤ at + 21) ⌝ }
 {
     let mut digits = [0u8; 20];
     let k = io::decimal(n, &mut digits);
     put_word(out, at, &digits[..k], end)
 }
 
+// Puts a word, a number, and then a byte.
+fn put_named(out: &mut [u8], at: usize, word: &[u8], n: u64, end: u8) -> usize
+    requires { ⌜ at + length (now word) + 22 ≤ length (now out) ⌝ }
+    ensures { λ r. ⌜ Puts (now (out .entry)) at (named (now (word .entry)) n end) (now (out .exit)) r ⌝ }
+    ensures { λ r. ⌜ r ≤ at + length (now (word .entry)) + 22 ⌝ }
+{
+    let next = put_word(out, at, word, b' ');
+    put_number(out, next, n, end)
+}
+
 // Puts a line of three numbers.
 pub fn put_line(out: &mut [u8], at: usize, a: u64, b: u64, c: u64) -> usize
     requires { ⌜ at + 63 ≤ length (now out) ⌝ }
-    ensures { λ r. ⌜ r ≤ at + 63 ⌝ }
+    ensures { λ r. ⌜ Puts (now (out .entry)) at (threeNumbers a b c) (now (out .exit)) r ⌝ }
+    ensures { λ r. ⌜ (at < r) × (r ≤ at + 63) ⌝ }
 {
     let second = put_number(out, at, a, b' ');
     let third = put_number(out, second, b, b' ');
@@ -46,26 +61,14 @@ pub fn write(out: &[u8], end: usize)
     io::write_all(STDOUT_FILENO, &out[..end]);
 }
 
-// Writes the buffer's first bytes if a line might not find room after them, and answers the position to go on at.
-pub fn flush(out: &[u8], at: usize) -> usize
-    requires { ⌜ (at ≤ length (now out)) × (63 ≤ length (now out)) ⌝ }
-    ensures { λ r. ⌜ r + 63 ≤ length (now (out .entry)) ⌝ }
-{
-    if at <= out.len() - 63 {
-        return at;
-    }
-    write(out, at);
-    0
-}
-
 // Puts the line of the block with this number, refused with this number.
 fn put_refusal(out: &mut [u8], block: u64, refusal: u64) -> usize
     requires { ⌜ 64 ≤ length (now out) ⌝ }
+    ensures { λ r. ⌜ Puts (now (out .entry)) 0 (refusedLine block refusal) (now (out .exit)) r ⌝ }
     ensures { λ r. ⌜ r ≤ 64 ⌝ }
 {
-    let first = put_word(out, 0, b"REFUSED", b' ');
-    let second = put_number(out, first, block, b' ');
-    put_number(out, second, refusal, b'\n')
+    let next = put_named(out, 0, b"REFUSED", block, b' ');
+    put_number(out, next, refusal, b'\n')
 }
 
 // Writes that line.
@@ -78,12 +81,10 @@ pub fn write_refusal(block: u64, refusal: u64) {
 // Puts the line of the counts.
 pub fn put_counts(out: &mut [u8], containers: u64, policies: u64, pairs: u64) -> usize
     requires { ⌜ 128 ≤ length (now out) ⌝ }
+    ensures { λ r. ⌜ Puts (now (out .entry)) 0 (countsLine containers policies pairs) (now (out .exit)) r ⌝ }
     ensures { λ r. ⌜ r ≤ 128 ⌝ }
 {
-    let first = put_word(out, 0, b"CONTAINERS", b' ');
-    let second = put_number(out, first, containers, b' ');
-    let third = put_word(out, second, b"POLICIES", b' ');
-    let fourth = put_number(out, third, policies, b' ');
-    let fifth = put_word(out, fourth, b"PAIRS", b' ');
-    put_number(out, fifth, pairs, b'\n')
+    let second = put_named(out, 0, b"CONTAINERS", containers, b' ');
+    let third = put_named(out, second, b"POLICIES", policies, b' ');
+    put_named(out, third, b"PAIRS", pairs, b'\n')
 }

@@ -1,4 +1,6 @@
 -- `put_number` meets its contract. Assumes nothing.
+use mathlib.Core.Path.{ap, _∙_}
+use mathlib.Core.List.{List}
 use Prim.Native.Nat.{ℕ, _-_, _^_, _≤_, _<_}
 use native.Mathlib.Omega.{arith}
 use native.Mathlib.Decide.{decLe}
@@ -7,6 +9,8 @@ use borrow.Author.Needs.{needs}
 use lib.Dec.{lit<}
 use lib.ListN.{length, take}
 use Rattle.io.specs.Digits.{Fewest}
+use Rattle.lister.specs.Text.{ended}
+use Rattle.lister.proofs.TextLaws.{puts-as, digits-decimal}
 use Rattle.lister.proofs.text.put_number.Statement.{statement}
 use Rattle.lister.proofs.text.put_number.Tie as tie
 
@@ -34,7 +38,13 @@ put-word-requires : tie.Need-put-word-requires
 put-word-requires c κs = let f = short (c .before .before) in omega arith
 
 returns : tie.Need-returns
-returns c = let f = short (c .before .before .before .before .before) in omega arith
+returns c =
+    let w = c .before .before in
+    let d = w .before .before .before in
+    let s = d .before .before .before in
+    let g = d .decimal .ensures .1 in
+    let f = short d in
+    (puts-as (w .put-word .ensures .0) (ap (λ (l : List ℕ). ended l (s .args .end)) (g .1 ∙ digits-decimal (s .args .n) (d .decimal .result) (g .0) (s .fits .n .fits))), omega arith)
 
 pub put-number-spec : {M : Type 1} → statement M
 put-number-spec =
