@@ -21,16 +21,29 @@ fn batch(work: &mut impl FnMut()) -> u32 {
     }
 }
 
+/// Runs the work some frames deeper. So the batches stand at different places of the stack: where a row that is read or written
+/// for each of many rows happens to lie across two pages, a call takes some microseconds more.
+#[inline(never)]
+fn deeper(frames: u32, work: &mut dyn FnMut()) {
+    let frame = black_box([0u8; 240]);
+    if frames == 0 {
+        work();
+    } else {
+        deeper(frames - 1, work);
+    }
+    black_box(frame);
+}
+
 /// The lowest times of a call on both sides in nanoseconds, over batches that take turns: what disturbs a batch only makes it
 /// slower, and a slow spell of the machine meets both.
 fn line(name: &str, mut ours: impl FnMut(), mut plain: impl FnMut()) -> Line {
     let (n, k) = (batch(&mut ours), batch(&mut plain));
     let mut l = Line { name: name.to_string(), ours: f64::INFINITY, plain: f64::INFINITY };
-    for _ in 0..60 {
+    for turn in 0..60 {
         let began = Instant::now();
-        (0..n).for_each(|_| ours());
+        deeper(turn % 8, &mut || (0..n).for_each(|_| ours()));
         let between = Instant::now();
-        (0..k).for_each(|_| plain());
+        deeper(turn % 8, &mut || (0..k).for_each(|_| plain()));
         l.ours = l.ours.min((between - began).as_nanos() as f64 / f64::from(n));
         l.plain = l.plain.min(between.elapsed().as_nanos() as f64 / f64::from(k));
     }
