@@ -27,12 +27,12 @@ loop-holds : tie.Need-loop-holds Inv-loop μ-loop
 loop-holds c = consistent-rows _ (c .before .before .before .before .before .pre)
 
 row-of-bits-requires : tie.Need-row-of-bits-requires Inv-loop μ-loop
-row-of-bits-requires c κs = let t = c .before .before in (t .loop-test .taken, t .before .before .sides-of .ensures .chosen)
+row-of-bits-requires c κs = let t = c .before .before in (omega (arith, t .loop-test .taken), t .before .before .sides-of .ensures .chosen)
 
 row-at-requires : tie.Need-row-at-requires Inv-loop μ-loop
 row-at-requires c κs =
     let t = c .before .before .before in
-    (formed-whole _ (t .before .before .before .before .before .before .before .pre), t .loop-test .taken)
+    (formed-whole _ (t .before .before .before .before .before .before .before .pre), omega (arith, t .loop-test .taken))
 
 -- whether the row is by the rules
 module _ (c : tie.After-same Inv-loop μ-loop) where
@@ -48,7 +48,7 @@ module _ (c : tie.After-same Inv-loop μ-loop) where
       let d = turn .before .before in
       let a = d .before .before in
       same-rows _ _ _ (c .before .row-at .ensures)
-      (row .row-of-bits .ensures ∙ rule-row _ (policies-length _) (record { selected = a .before .selected-sets .ensures; allowed = a .allowed-sets .ensures }) (d .sides-of .ensures) _ (turn .loop-test .taken))
+      (row .row-of-bits .ensures ∙ rule-row _ (policies-length _) (record { selected = a .before .selected-sets .ensures; allowed = a .allowed-sets .ensures }) (d .sides-of .ensures) _ (omega (arith, turn .loop-test .taken)))
       (c .same .ensures)
 
 returns : tie.Need-returns Inv-loop μ-loop

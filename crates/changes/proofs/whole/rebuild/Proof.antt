@@ -25,10 +25,10 @@ loop-holds : tie.Need-loop-holds Inv-loop μ-loop
 loop-holds c = let ok = c .before .before .before .before .before .before .before .before .pre in rebuilding-none _ (formed-holds _ ok) (formed-fits _ ok)
 
 row-of-bits-requires : tie.Need-row-of-bits-requires Inv-loop μ-loop
-row-of-bits-requires c κs = let t = c .before .before in (t .loop-test .taken, t .before .before .sides-of .ensures .chosen)
+row-of-bits-requires c κs = let t = c .before .before in (omega (arith, t .loop-test .taken), t .before .before .sides-of .ensures .chosen)
 
 set-row-requires : tie.Need-set-row-requires Inv-loop μ-loop
-set-row-requires c κs = let t = c .before .before .before .before in (t .before .loop .inv .held .whole, t .loop-test .taken)
+set-row-requires c κs = let t = c .before .before .before .before in (t .before .loop .inv .held .whole, omega (arith, t .loop-test .taken))
 
 loop-again : tie.Need-loop-again Inv-loop μ-loop
 unfolding directionOf registryIn
@@ -38,8 +38,8 @@ loop-again c =
     let t = b .before .before .before in
     let d = t .before .before in
     let a = d .before .before .before in
-    rebuilding-next _ (t .before .loop .inv) (t .loop-test .taken) _
-    (b .row-of-bits .ensures ∙ rule-row _ (policies-length _) (record { selected = a .before .before .selected-sets .ensures; allowed = a .allowed-sets .ensures }) (d .sides-of .ensures) _ (t .loop-test .taken))
+    rebuilding-next _ (t .before .loop .inv) (omega (arith, t .loop-test .taken)) _
+    (b .row-of-bits .ensures ∙ rule-row _ (policies-length _) (record { selected = a .before .before .selected-sets .ensures; allowed = a .allowed-sets .ensures }) (d .sides-of .ensures) _ (omega (arith, t .loop-test .taken)))
     (s .set-row .ensures) (λ k. omega (arith, c .slice-known2 .given k))
 
 same-length : tie.Need-same-length Inv-loop μ-loop
