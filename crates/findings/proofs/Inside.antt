@@ -6,7 +6,7 @@ use Prim.Native.Nat.{ℕ, _<_}
 use native.Mathlib.Omega.{arith}
 use lib.Dec.{eqb}
 use borrow.Author.Tests.{eqb-true}
-use Rattle.model.specs.Findings.{shown, irrelevance}
+use Rattle.model.specs.Findings.{shown, needless, irrelevance}
 use Rattle.formed.proofs.Trials.{container-below, policy-below}
 use Rattle.findings.specs.Rows.{shownAt, containersOf, policiesOf}
 use Rattle.findings.proofs.Standing.{halves}
@@ -49,7 +49,7 @@ module _ (m : List ℕ) (k a b : ℕ) where
       record { low = l; high = u; inA = omega arith; inB = pb }
 
 pub shown-inside : (m : List ℕ) → Bounded (shownAt m)
-unfolding shownAt shown irrelevance
+unfolding shownAt shown irrelevance needless
 shown-inside m k a b h =
     kind-case k 1 h (λ e. inside-zero m k a b _ (omega arith) (omega arith)) (λ h.
     kind-case k 2 h (λ e. inside-zero m k a b _ (omega arith) (omega arith)) (λ h.

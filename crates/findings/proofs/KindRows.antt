@@ -8,9 +8,9 @@ use lib.Dec.{eqb}
 use borrow.Author.Tests.{ne-eqb}
 use Rattle.bitrow.specs.Set.{nothing, insert}
 use Rattle.model.specs.Model.{Model, Bits}
-use Rattle.model.specs.Findings.{shown, allReachable, allIsolated, userCross, systemIsolation, shadow, conflict, irrelevance}
+use Rattle.model.specs.Findings.{shown, allReachable, allIsolated, userCross, systemIsolation, shadow, conflict, needless, irrelevance}
 use Rattle.formed.specs.Registry.{modelIn, bitsIn}
-use Rattle.findings.specs.Rows.{shownAt, containersOf, policiesOf, zeroIf, needless}
+use Rattle.findings.specs.Rows.{shownAt, containersOf, policiesOf, zeroIf}
 
 -- ---- the definition of each kind
 

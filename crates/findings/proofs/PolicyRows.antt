@@ -1,28 +1,42 @@
 -- The rows of kinds 5 to 7, at a policy that stands, are the model's definitions. Assumes nothing.
 use mathlib.Core.Path.{_≡_, refl, sym, ap, ap₂, _∙_, fun-ext}
-use mathlib.Core.Bool.{Bool, true, false, not, _&&_, _||_, and-false, true≢false}
+use mathlib.Core.Bool.{Bool, true, false, not, _&&_, _||_, cond, and-false, true≢false}
 use mathlib.Core.List.{List}
-use Prim.Native.Nat.{ℕ, _≤_}
+use Prim.Native.Nat.{ℕ, _≤_, _<_}
 use native.Mathlib.Decide.{ℕ-discrete}
 use native.Mathlib.Omega.{arith}
 use lib.Dec.{eqb, ltb}
+use borrow.Author.Tests.{eq-eqb, ne-eqb}
 use Rattle.bitrow.specs.Bit.{bitAt}
 use Rattle.bitrow.specs.Set.{nothing, meet, hasSome, part}
 use Rattle.bitrow.proofs.Sets.{meet-at}
 use Rattle.bitrow.proofs.Tests.{hasSome-clear, hasSome-absent}
 use Rattle.model.specs.Table.{any, standing}
-use Rattle.model.specs.Findings.{shadow, conflict, irrelevance}
+use Rattle.model.specs.Findings.{shadow, conflict, needless, irrelevance}
 use Rattle.model.specs.Findings as model
 use Rattle.store.specs.Layout.{wordAt, policyStart, rowAt, selectedRow, allowedRow}
 use Rattle.formed.specs.Registry.{modelIn, bitsIn, wellFormed}
+use Rattle.store.proofs.Cases.{by-eqb}
 use Rattle.formed.proofs.Trials.{container-below}
-use Rattle.findings.specs.Rows.{shownAt, policiesOf, needless, AtPolicy, Compared}
+use Rattle.findings.specs.Rows.{shownAt, policiesOf, comparison, AtPolicy, Compared}
 use Rattle.findings.proofs.Standing.{halves, any-some, any-both, connected-sets, among-sets, some-part}
 use Rattle.findings.proofs.Words.{selected-row, allowed-row, selected-stands, allowed-stands, one-direction}
 use Rattle.findings.proofs.KindRows.{at-5, at-6, at-7, no-kind, of-kind}
 
 meet-none : (s t : ℕ → Bool) → hasSome s ≡ false → hasSome (meet s t) ≡ false
 meet-none s t e = hasSome-clear (meet s t) (λ j h. meet-at s t j ∙ ap (λ x. x && t j) (hasSome-absent s e j h))
+
+module _ (k : ℕ) (m : List ℕ) (a b : ℕ) where
+  abbrev said : Bool → Bool
+  said t = cond t (shadow (modelIn m) (bitsIn m)) (conflict (modelIn m) (bitsIn m)) a b
+
+  pub comparison-5 : k ≡ 5 → comparison k m a b ≡ shadow (modelIn m) (bitsIn m) a b
+  unfolding comparison
+  comparison-5 e = ap said (eq-eqb k 5 e)
+
+  pub comparison-6 : (k ≡ 5 → ⊥) → comparison k m a b ≡ conflict (modelIn m) (bitsIn m) a b
+  unfolding comparison
+  comparison-6 e = ap said (ne-eqb k 5 e)
 
 module _ (m : List ℕ) (ok : wellFormed m ≡ true) where
   some-selected : (a : ℕ) → any (bitsIn m .selected a) (standing (modelIn m .containers)) ≡ hasSome (bitsIn m .selected a)
@@ -80,13 +94,19 @@ module _ (m : List ℕ) (ok : wellFormed m ≡ true) where
 
   module _ (a : ℕ) (h : policiesOf m a ≡ true) where
     -- the standing policies that pass a kind's test
-    pub shadow-row : {row : ℕ → Bool} → row ≡ policiesOf m → meet row (shadow (modelIn m) (bitsIn m) a) ≡ shownAt m 5 a
+    shadow-row : {row : ℕ → Bool} → row ≡ policiesOf m → meet row (shadow (modelIn m) (bitsIn m) a) ≡ shownAt m 5 a
     unfolding meet
     shadow-row e = ap (λ s b. s b && shadow (modelIn m) (bitsIn m) a b) e ∙ fun-ext (λ b. sym (at-5 m a b ∙ ap (λ t. t && (policiesOf m b && shadow (modelIn m) (bitsIn m) a b)) h))
 
-    pub conflict-row : {row : ℕ → Bool} → row ≡ policiesOf m → meet row (conflict (modelIn m) (bitsIn m) a) ≡ shownAt m 6 a
+    conflict-row : {row : ℕ → Bool} → row ≡ policiesOf m → meet row (conflict (modelIn m) (bitsIn m) a) ≡ shownAt m 6 a
     unfolding meet
     conflict-row e = ap (λ s b. s b && conflict (modelIn m) (bitsIn m) a b) e ∙ fun-ext (λ b. sym (at-6 m a b ∙ ap (λ t. t && (policiesOf m b && conflict (modelIn m) (bitsIn m) a b)) h))
+
+    pub comparison-row : {row : ℕ → Bool} → row ≡ policiesOf m → (k : ℕ) → 5 ≤ k → k < 7 → meet row (comparison k m a) ≡ shownAt m k a
+    unfolding comparison
+    comparison-row {row} e k l h =
+        by-eqb (λ t. meet row (cond t (shadow (modelIn m) (bitsIn m)) (conflict (modelIn m) (bitsIn m)) a) ≡ shownAt m k a) k 5
+        (λ q. of-kind m 5 k a (shadow-row e) q) (λ q. of-kind m 6 k a (conflict-row e) (omega arith))
 
     -- a set of a is empty: no shadow and no conflict
     shadow-none : (hasSome (bitsIn m .selected a) && hasSome (bitsIn m .allowed a)) ≡ false → nothing ≡ shownAt m 5 a

@@ -1,6 +1,6 @@
 -- The findings of a kind at a, as the set of all b, and what they are worked out from. Assumes nothing.
 use mathlib.Core.Path.{_≡_}
-use mathlib.Core.Bool.{Bool, true, not, _&&_, _||_, Bool·beq}
+use mathlib.Core.Bool.{Bool, true, _&&_, cond, Bool·beq}
 use mathlib.Core.List.{List}
 use Prim.Native.Nat.{ℕ, _<_}
 use lib.Dec.{eqb}
@@ -8,7 +8,7 @@ use Rattle.bitrow.specs.Bit.{bitAt}
 use Rattle.bitrow.specs.Set.{hasSome}
 use Rattle.model.specs.Table.{stands}
 use Rattle.model.specs.Model.{Bits}
-use Rattle.model.specs.Findings.{finding, shown}
+use Rattle.model.specs.Findings.{finding, shown, shadow, conflict}
 use Rattle.store.specs.Layout.{Whole, wordAt, containerStart}
 use Rattle.formed.specs.Words.{partIn}
 use Rattle.formed.specs.Registry.{modelIn, bitsIn, wellFormed}
@@ -28,9 +28,9 @@ policiesOf m = stands (modelIn m .policies)
 unfoldable pub zeroIf : Bool → ℕ → Bool
 zeroIf t b = t && eqb b 0
 
--- 0 where a policy selects nothing, 1 where it selects something and allows nothing
-unfoldable pub needless : Bool → Bool → ℕ → Bool
-needless selects allows b = (eqb b 0 && not selects) || (eqb b 1 && (selects && not allows))
+-- what kind 5, or else 6, says of two policies
+unfoldable pub comparison : ℕ → List ℕ → ℕ → ℕ → Bool
+comparison kind m = cond (eqb kind 5) (shadow (modelIn m) (bitsIn m)) (conflict (modelIn m) (bitsIn m))
 
 -- the containers whose bit to a is as wanted
 unfoldable pub columnIs : Bits → ℕ → Bool → ℕ → Bool

@@ -4,9 +4,9 @@ ghost use mathlib.Core.Bool.{true};
 ghost use Prim.Native.Nat.{_<_, _≤_};
 ghost use Rattle.bitrow.specs.Bit.{bitAt};
 ghost use Rattle.bitrow.specs.Set.{meet, hasSome};
-ghost use Rattle.model.specs.Findings.{shadow, conflict};
+ghost use Rattle.model.specs.Findings.{shadow, conflict, needless};
 ghost use Rattle.formed.specs.Registry.{modelIn, bitsIn, wellFormed};
-ghost use Rattle.findings.specs.Rows.{shownAt, policiesOf, needless, AtPolicy, Compared};
+ghost use Rattle.findings.specs.Rows.{shownAt, policiesOf, comparison, AtPolicy, Compared};
 use bitrow::Found;
 
 // Whether a lies in b's shadow. Neither of a's sets is empty, so its connections lie among b's if its sets are parts of b's.
@@ -20,26 +20,6 @@ fn shadow_at(memory: &[u64], a: usize, b: usize, who: [u64; 4], whom: [u64; 4]) 
     let under = bitrow::within(who, other_who) & bitrow::within(whom, other_whom);
     let over = bitrow::within(other_who, who) & bitrow::within(other_whom, whom);
     (a != b) & (one_way & (under & (!over | (b < a))))
-}
-
-// 5. Shadow: the policies in whose shadow a lies.
-fn shadows(memory: &[u64], policies: [u64; 4], a: usize, who: [u64; 4], whom: [u64; 4]) -> [u64; 4]
-    requires { ⌜ Compared (now memory) who whom a × (bitAt policies ≡ policiesOf (now memory)) ⌝ }
-    ensures { λ r. ⌜ bitAt r ≡ meet (bitAt policies) (shadow (modelIn (now (memory .entry))) (bitsIn (now (memory .entry))) a) ⌝ }
-{
-    let mut chosen = bitrow::none();
-    let mut from = 0;
-    loop {
-        let found = bitrow::next_from(policies, from);
-        let Found::At(b) = found else {
-            return chosen;
-        };
-        from = b + 1;
-        if shadow_at(memory, a, b, who, whom) {
-            let next = bitrow::with(chosen, b);
-            chosen = next;
-        }
-    }
 }
 
 // Whether a conflicts with b, above it. a allows something.
@@ -56,16 +36,28 @@ fn conflict_at(memory: &[u64], a: usize, b: usize, who: [u64; 4], whom: [u64; 4]
     (a < b) & (one_way & (!apart & (!idle & disjoint)))
 }
 
-// 6. Conflict: the policies above a that it conflicts with.
-fn conflicts(
+// Whether a and b make a finding of kind 5, or else 6.
+fn compare(memory: &[u64], kind: usize, a: usize, b: usize, who: [u64; 4], whom: [u64; 4]) -> bool
+    requires { ⌜ Compared (now memory) who whom a × AtPolicy (now memory) b ⌝ }
+    ensures { λ r. ⌜ r ≡ comparison kind (now (memory .entry)) a b ⌝ }
+{
+    if kind == 5 {
+        return shadow_at(memory, a, b, who, whom);
+    }
+    conflict_at(memory, a, b, who, whom)
+}
+
+// 5. Shadow: the policies in whose shadow a lies. 6. Conflict: the policies above a that it conflicts with.
+fn compare_all(
     memory: &[u64],
     policies: [u64; 4],
+    kind: usize,
     a: usize,
     who: [u64; 4],
     whom: [u64; 4],
 ) -> [u64; 4]
     requires { ⌜ Compared (now memory) who whom a × (bitAt policies ≡ policiesOf (now memory)) ⌝ }
-    ensures { λ r. ⌜ bitAt r ≡ meet (bitAt policies) (conflict (modelIn (now (memory .entry))) (bitsIn (now (memory .entry))) a) ⌝ }
+    ensures { λ r. ⌜ bitAt r ≡ meet (bitAt policies) (comparison kind (now (memory .entry)) a) ⌝ }
 {
     let mut chosen = bitrow::none();
     let mut from = 0;
@@ -75,7 +67,7 @@ fn conflicts(
             return chosen;
         };
         from = b + 1;
-        if conflict_at(memory, a, b, who, whom) {
+        if compare(memory, kind, a, b, who, whom) {
             let next = bitrow::with(chosen, b);
             chosen = next;
         }
@@ -111,11 +103,8 @@ pub fn row_of(memory: &[u64], policies: [u64; 4], kind: usize, a: usize) -> [u64
     if bitrow::is_empty(who) | bitrow::is_empty(whom) {
         return bitrow::none();
     }
-    if kind == 5 {
-        return shadows(memory, policies, a, who, whom);
-    }
-    if kind == 6 {
-        return conflicts(memory, policies, a, who, whom);
+    if kind < 7 {
+        return compare_all(memory, policies, kind, a, who, whom);
     }
     bitrow::none()
 }

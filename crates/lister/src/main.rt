@@ -16,6 +16,7 @@ use findings::Cursor;
 use findings::Step;
 use libc::STDIN_FILENO;
 use model::Finding;
+use model::Refusal;
 use registry::Admitted;
 use registry::Counted;
 use registry::Opened;
@@ -250,7 +251,7 @@ fn main() {
     let mut bytes = io::large_buffer();
     let state = take_input(&mut memory, &mut bytes);
     if state.blocks == 0 {
-        text::write_refusal(1, 3);
+        text::write_refusal(1, registry::number(Refusal::BlockLength));
         return;
     }
     if state.opened {

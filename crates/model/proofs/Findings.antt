@@ -11,7 +11,7 @@ use Rattle.model.specs.declared.Finding.{Finding}
 use Rattle.model.specs.Findings.{Cursor}
 use Rattle.model.specs.Table.{any, count}
 use Rattle.model.specs.Model.{Model, Bits}
-use Rattle.model.specs.Findings.{finding, Kind, kinds, rowOf, ofKind, ofKinds, findings, shown, placeOf, after, irrelevance}
+use Rattle.model.specs.Findings.{finding, Kind, kinds, rowOf, ofKind, ofKinds, findings, shown, placeOf, after, needless, irrelevance}
 use Rattle.model.proofs.Lists.{either, neither, denied, elem, Up, standing-up, elem-standing}
 use Rattle.model.proofs.Lists.{All, Sorted, all-of, all-map, all-append, all-cond, sorted-append, sorted-cond, any-append, any-cond}
 
@@ -86,7 +86,7 @@ module _ (g : Finding) where
 
 -- the definition of kind 7 says what b can be
 irrelevance-seconds : (m : Model) (s : Bits) (a b : ℕ) → ((eqb b 0 || eqb b 1) && irrelevance m s a b) ≡ irrelevance m s a b
-unfolding irrelevance
+unfolding irrelevance needless
 irrelevance-seconds m s a b = pick (eqb b 0) (eqb b 1) _ _
   where
     pick : (x y u v : Bool) → ((x || y) && ((x && u) || (y && v))) ≡ ((x && u) || (y && v))

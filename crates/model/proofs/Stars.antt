@@ -56,7 +56,7 @@ unfolding test stars
     Reader.labelFault Reader.within
     Rules.reaches Rules.lets Rules.someAllows Rules.someSelects Rules.sameDirection Rules.allows Rules.selects Rules.matches Rules.carries Rules.sameLabel
     Model.withPolicy Model.computedBits Model.matrixBit Model.selectedBit Model.allowedBit
-    Findings.findings Findings.kinds Findings.irrelevance Findings.conflict Findings.shadow Findings.among Findings.connected
+    Findings.findings Findings.kinds Findings.irrelevance Findings.needless Findings.conflict Findings.shadow Findings.among Findings.connected
     Findings.systemIsolation Findings.userCross Findings.allIsolated Findings.allReachable Findings.connects Findings.oneDirection
     Findings.isSystem Findings.sameUser
     Registry.changePolicy Registry.touched Registry.touches Registry.setWhere

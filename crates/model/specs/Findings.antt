@@ -35,6 +35,10 @@ module _ (m : Model) where
   unfoldable pub oneDirection : ℕ → ℕ → Bool
   oneDirection a b = on (λ p. on (λ q. sameDirection (p .direction) (q .direction)) (at (m .policies) b)) (at (m .policies) a)
 
+-- "b is 0 if a selects nothing, b is 1 if a selects something and allows nothing", by whether it selects and allows something
+unfoldable pub needless : Bool → Bool → ℕ → Bool
+needless selectsSome allowsSome b = (eqb b 0 && not selectsSome) || (eqb b 1 && (selectsSome && not allowsSome))
+
 -- "a's connections (selected times allowed)": c to d is one of them
 unfoldable pub connects : Bits → ℕ → ℕ → ℕ → Bool
 connects s a c d = s .selected a c && s .allowed a d
@@ -77,12 +81,9 @@ module _ (m : Model) (s : Bits) where
       && (any (s .allowed a) (containersOf m) && (any (s .allowed b) (containersOf m)
       && not (any (λ c. s .allowed a c && s .allowed b c) (containersOf m))))))
 
-  -- 7. "b is 0 if a selects nothing, b is 1 if a selects something and allows nothing"
+  -- 7.
   unfoldable pub irrelevance : ℕ → ℕ → Bool
-  irrelevance a b =
-      let selectsSome = any (s .selected a) (containersOf m) in
-      let allowsSome = any (s .allowed a) (containersOf m) in
-      (eqb b 0 && not selectsSome) || (eqb b 1 && (selectsSome && not allowsSome))
+  irrelevance a b = needless (any (s .selected a) (containersOf m)) (any (s .allowed a) (containersOf m)) b
 
 -- ---- the list: "Order: kind, then a, then b."
 

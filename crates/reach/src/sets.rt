@@ -8,6 +8,8 @@ ghost use Rattle.model.specs.Table.{stands};
 ghost use Rattle.model.specs.Model.{selectedBit, allowedBit};
 ghost use Rattle.formed.specs.Registry.{modelIn, wellFormed};
 ghost use Rattle.reach.specs.Sets.{RowsAre, directionSet, partSet, PartsWithin, SidesOf};
+use crate::rules;
+use crate::rules::Sides;
 
 // Of the candidates, those that the part at an offset of policy q's slot matches; none where the slot is free.
 pub fn part_row(memory: &[u64], q: usize, offset: usize, candidates: [u64; 4]) -> [u64; 4]
@@ -73,18 +75,18 @@ fn of_direction(memory: &[u64], direction: u64) -> [u64; 4]
 
 // What a row of the matrix is worked out from for direction 2, egress, and a column for direction 1, ingress, where `selected` has
 // what each policy selects.
-pub fn sides_of(memory: &[u64], selected: &[[u64; 4]; 128], direction: u64) -> crate::rules::Sides
+pub fn sides_of(memory: &[u64], selected: &[[u64; 4]; 128], direction: u64) -> Sides
     requires { ⌜ (wellFormed (now memory) ≡ true) × (1 ≤ direction) × (direction ≤ 2) ⌝ }
     ensures { λ r. ⌜ SidesOf (modelIn (now (memory .entry))) (directionOf direction) (now (selected .entry)) r ⌝ }
 {
     let standing = formed::containers_standing(memory);
     let out = of_direction(memory, direction);
     let back = of_direction(memory, 3 - direction);
-    let chosen = crate::rules::union_of(back, selected);
-    crate::rules::Sides {
-        standing: standing,
-        out: out,
-        back: back,
-        chosen: chosen,
+    let chosen = rules::union_of(back, selected);
+    Sides {
+        standing,
+        out,
+        back,
+        chosen,
     }
 }

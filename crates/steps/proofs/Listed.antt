@@ -219,7 +219,7 @@ unfolding listed knowns containerOf policyOf said opens elsewhereAt fresh
     Model.empty Model.withContainer Model.withPolicy Model.computedBits Model.matrixBit Model.selectedBit Model.allowedBit
     ModelStep.modelStep ModelStep.opening ModelStep.placing ModelStep.placingPolicy ModelStep.admitting ModelStep.removing ModelStep.removingPolicy
     ModelStep.asking ModelStep.askingUser
-    Findings.findings Findings.kinds Findings.irrelevance Findings.conflict Findings.shadow Findings.among Findings.connected
+    Findings.findings Findings.kinds Findings.irrelevance Findings.needless Findings.conflict Findings.shadow Findings.among Findings.connected
     Findings.systemIsolation Findings.userCross Findings.allIsolated Findings.allReachable Findings.connects Findings.oneDirection
     Findings.isSystem Findings.sameUser Findings.nextAfter Findings.after
 computes = refl

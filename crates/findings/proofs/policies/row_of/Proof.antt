@@ -6,11 +6,12 @@ use borrow.Author.Tests.{not-true, not-false}
 use Rattle.bitrow.specs.Bit.{bitAt}
 use Rattle.bitrow.specs.Set.{hasSome}
 use Rattle.bitrow.proofs.Sets.{at}
+use Rattle.model.specs.Findings.{needless}
 use Rattle.formed.specs.Registry.{bitsIn}
-use Rattle.findings.specs.Rows.{needless, AtPolicy, Compared}
+use Rattle.findings.specs.Rows.{AtPolicy, Compared}
 use Rattle.findings.proofs.Words.{policy-in, selected-row, allowed-row}
 use Rattle.findings.proofs.KindRows.{no-policy, no-kind, of-kind}
-use Rattle.findings.proofs.PolicyRows.{needless-row, compared-none, one-empty, none-empty, shadow-row, conflict-row}
+use Rattle.findings.proofs.PolicyRows.{needless-row, compared-none, one-empty, none-empty, comparison-row}
 use Rattle.findings.proofs.policies.row_of.Statement.{statement}
 use Rattle.findings.proofs.policies.row_of.Tie as tie
 
@@ -61,33 +62,26 @@ returns-3 c =
     ∙ compared-none _ (h .formed) _ (h .here) _ (p .3) (t .before .before .if2 .left)
     (sym (ap₂ (λ x y. hasSome x && hasSome y) (who-is r) (whom-is r)) ∙ one-empty (hasSome (bitAt (r .before .row-at .result))) (hasSome (bitAt (r .row-at2 .result))) (t .before .is-empty .ensures) (t .is-empty2 .ensures) (c .before .if3 .taken))
 
-shadows-requires : tie.Need-shadows-requires
-shadows-requires c κs = (compared (c .before), c .before .before .before .before .before .before .before .before .before .before .pre .1)
+compare-all-requires : tie.Need-compare-all-requires
+compare-all-requires c κs = (compared (c .before), c .before .before .before .before .before .before .before .before .before .before .pre .1)
 
 returns-4 : tie.Need-returns-4
 returns-4 c =
-    let r = c .before .before .before .before .before .before in
+    let t = c .before in
+    let r = t .before .before .before .before .before in
     let h = here (r .before .before) in
-    of-kind _ 5 _ _ (c .shadows .ensures ∙ shadow-row _ (h .formed) _ (h .here) (r .before .before .before .before .before .pre .1)) (c .before .if4 .taken)
-
-conflicts-requires : tie.Need-conflicts-requires
-conflicts-requires c κs = (compared (c .before .before), c .before .before .before .before .before .before .before .before .before .before .before .pre .1)
+    let p = r .before .before .before .before .before .pre in
+    c .compare-all .ensures ∙ comparison-row _ (h .formed) _ (h .here) (p .1) _ (p .3) (t .if4 .taken)
 
 returns-5 : tie.Need-returns-5
 returns-5 c =
-    let r = c .before .before .before .before .before .before .before in
-    let h = here (r .before .before) in
-    of-kind _ 6 _ _ (c .conflicts .ensures ∙ conflict-row _ (h .formed) _ (h .here) (r .before .before .before .before .before .pre .1)) (c .before .if5 .taken)
-
-returns-6 : tie.Need-returns-6
-returns-6 c =
     let e = c .before in
-    let t = e .before .before in
+    let t = e .before in
     let two = t .before .before .before in
     let p = two .before .before .before .before .before .before .pre in
     c .none3 .ensures
     ∙ no-kind _ _ _ (λ z. omega (arith, p .3)) (λ z. omega (arith, p .3)) (λ z. omega (arith, p .3)) (λ z. omega (arith, p .3))
-    (e .before .if4 .left) (e .if5 .left) (two .if2 .left)
+    (λ z. omega (arith, e .if4 .left)) (λ z. omega (arith, e .if4 .left)) (two .if2 .left)
 
 pub row-of-spec : {M : Type 1} → statement M
 row-of-spec =
@@ -108,9 +102,7 @@ row-of-spec =
     (λ c κs. search needs)
     (λ c κs. search needs)
     returns-3
-    shadows-requires
+    compare-all-requires
     returns-4
-    conflicts-requires
-    returns-5
     (λ c κs. search needs)
-    returns-6)
+    returns-5)

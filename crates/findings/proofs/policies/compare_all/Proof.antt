@@ -7,19 +7,18 @@ use Rattle.bitrow.specs.Set.{meet, under, insert, Lowest}
 use Rattle.bitrow.proofs.Sets.{meet-nothing, under-zero}
 use Rattle.bitrow.proofs.Rows.{row-bounded}
 use Rattle.bitrow.proofs.Searches.{lowest-at, lowest-nothing}
-use Rattle.model.specs.Findings.{shadow}
-use Rattle.formed.specs.Registry.{modelIn, bitsIn}
 use Rattle.formed.proofs.Trials.{gather-take, gather-skip, gather-done}
+use Rattle.findings.specs.Rows.{comparison}
 use Rattle.findings.proofs.Words.{policy-in}
-use Rattle.findings.proofs.policies.shadows.Statement.{statement}
-use Rattle.findings.proofs.policies.shadows.Tie as tie
+use Rattle.findings.proofs.policies.compare_all.Statement.{statement}
+use Rattle.findings.proofs.policies.compare_all.Tie as tie
 
 abbrev Inv-loop : tie.InvT-loop
-Inv-loop memory policies a who whom chosen₀ from₀ chosen from =
-    (bitAt chosen ≡ meet (meet (bitAt policies) (shadow (modelIn memory) (bitsIn memory) a)) (under from)) × (from ≤ 256)
+Inv-loop memory policies kind a who whom chosen₀ from₀ chosen from =
+    (bitAt chosen ≡ meet (meet (bitAt policies) (comparison kind memory a)) (under from)) × (from ≤ 256)
 
 abbrev μ-loop : tie.MeasureT-loop
-μ-loop memory policies a who whom chosen₀ from₀ chosen from = 256 - from
+μ-loop memory policies kind a who whom chosen₀ from₀ chosen from = 256 - from
 
 -- what the search found is the lowest policy left
 lowest : (f : tie.After-found Inv-loop μ-loop) → Lowest (bitAt (f .before .before .before .before .before .before .args .policies)) (f .before .before .before .loop .from) 256 (f .found .given .0 .0)
@@ -36,8 +35,8 @@ returns c =
 add-from : tie.Need-add-from Inv-loop μ-loop
 add-from c = let j = lowest (c .before) .below in search needs
 
-shadow-at-requires : tie.Need-shadow-at-requires Inv-loop μ-loop
-shadow-at-requires c κs =
+compare-requires : tie.Need-compare-requires Inv-loop μ-loop
+compare-requires c κs =
     let p = c .before .before .before .before .before .before .before .pre in
     (p .0, policy-in _ _ _ (p .0 .at .formed) (p .1) (lowest (c .before) .there))
 
@@ -50,7 +49,7 @@ loop-less c = let j = lowest (c .before .before .before .before) in omega (arith
 loop-again : tie.Need-loop-again Inv-loop μ-loop
 loop-again c =
     let f = c .before .before .before .before in
-    (c .with .ensures ∙ ap (insert _) (f .before .before .before .loop .inv .0) ∙ gather-take _ _ _ 256 _ (lowest f) (sym (c .before .before .shadow-at .ensures) ∙ c .before .if1 .taken), omega (arith, lowest f .below))
+    (c .with .ensures ∙ ap (insert _) (f .before .before .before .loop .inv .0) ∙ gather-take _ _ _ 256 _ (lowest f) (sym (c .before .before .compare .ensures) ∙ c .before .if1 .taken), omega (arith, lowest f .below))
 
 loop-less-2 : tie.Need-loop-less-2 Inv-loop μ-loop
 loop-less-2 c = let j = lowest (c .before .before .before) in omega (arith, j .from, j .below)
@@ -58,10 +57,10 @@ loop-less-2 c = let j = lowest (c .before .before .before) in omega (arith, j .f
 loop-again-2 : tie.Need-loop-again-2 Inv-loop μ-loop
 loop-again-2 c =
     let f = c .before .before .before in
-    (f .before .before .before .loop .inv .0 ∙ gather-skip _ _ _ 256 _ (lowest f) (sym (c .before .shadow-at .ensures) ∙ c .if1 .left), omega (arith, lowest f .below))
+    (f .before .before .before .loop .inv .0 ∙ gather-skip _ _ _ 256 _ (lowest f) (sym (c .before .compare .ensures) ∙ c .if1 .left), omega (arith, lowest f .below))
 
-pub shadows-spec : {M : Type 1} → statement M
-shadows-spec =
+pub compare-all-spec : {M : Type 1} → statement M
+compare-all-spec =
     tie.close
     (tie.spec
     Inv-loop
@@ -73,7 +72,7 @@ shadows-spec =
     (λ c. search needs)
     returns
     add-from
-    shadow-at-requires
+    compare-requires
     with-requires
     loop-less
     loop-again
