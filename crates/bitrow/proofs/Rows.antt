@@ -157,13 +157,15 @@ bitMask i = 1 * 2 ^ (i % 64) % 18446744073709551616
 mask-bit : (i m : ℕ) → bit (bitMask i) m ≡ eqb m (i % 64)
 mask-bit i m = ap (λ (x : ℕ). bit x m) (one-shl 64 (i % 64) (rem-lt i)) ∙ bit-pow (i % 64) m
 
--- `r[i / 64] |= 1 << (i % 64)` and `r[i / 64] &= !(1 << (i % 64))`
-pub insert-row : (r : List ℕ) (i : ℕ) → Row r → i < 256 → bitAt (set r (i / 64) (bitOr (getD r (i / 64) 0) (bitMask i))) ≡ insert i (bitAt r)
+-- `word | 1 << (i % 64)`
+pub insert-bit : (w i : ℕ) → bit (bitOr w (bitMask i)) ≡ insert (i % 64) (bit w)
 unfolding insert
-insert-row r i p h =
-    let w = getD r (i / 64) 0 in
-    fun-ext (set-row (λ x y. x || y) (λ b. refl) r i (bitOr w (bitMask i)) (omega (arith, p .four)) (λ m l.
-    bit-or w (bitMask i) m ∙ or-comm (bit w m) (bit (bitMask i) m) ∙ ap (λ (b : Bool). b || bit w m) (mask-bit i m)))
+insert-bit w i = fun-ext (λ m. bit-or w (bitMask i) m ∙ or-comm (bit w m) (bit (bitMask i) m) ∙ ap (λ (b : Bool). b || bit w m) (mask-bit i m))
+
+-- i put into word i / 64, and `r[i / 64] &= !(1 << (i % 64))`
+pub insert-row : (r : List ℕ) (i v : ℕ) → length r ≡ 4 → i < 256 → bit v ≡ insert (i % 64) (bit (getD r (i / 64) 0)) → bitAt (set r (i / 64) v) ≡ insert i (bitAt r)
+unfolding insert
+insert-row r i v n h e = fun-ext (set-row (λ x y. x || y) (λ b. refl) r i v (omega arith) (λ m l. at e m))
 
 pub remove-row : (r : List ℕ) (i : ℕ) → Row r → i < 256 → bitAt (set r (i / 64) (bitAnd (getD r (i / 64) 0) (full - bitMask i))) ≡ remove i (bitAt r)
 unfolding remove

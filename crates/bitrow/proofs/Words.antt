@@ -1,11 +1,11 @@
 -- Laws of a word's bits. Assumes nothing.
 use mathlib.Core.Path.{_≡_, refl, sym, ap, ap₂, _∙_, subst, fun-ext}
-use mathlib.Core.Bool.{Bool, true, false, not, _&&_, _||_, xor, true≢false}
+use mathlib.Core.Bool.{Bool, true, false, not, _&&_, _||_, xor, and-false, and-self, true≢false}
 use Prim.Native.Nat.{ℕ, zero, suc, _+_, _-_, _*_, _/_, _%_, _^_, _≤_, _<_, min, max, zero-le}
 use native.Mathlib.Nat.{mod-lt, mod-eq-of-lt, lt-of-lt-of-le, zero-lt-suc, zero-div, div-self, div-eq-of-lt, div-one, mul-div-cancel, mul-mod-left, one-mul, div-div-eq-div-mul, pow-succ', div-lt-iff-lt-mul, pow-suc}
 use native.Mathlib.Decide.{decLt}
 use native.Mathlib.Omega.{arith}
-use lib.Dec.{eqb, ltb, lit<}
+use lib.Dec.{eqb, eqb·suc-zero, eqb·suc-suc, ltb, lit<}
 use lib.Arith.{digits-mod, lt-one}
 use lib.Pow.{pow-pos, pow-mono, pow-lt, pow-add, ones-split, high, ones-lt}
 use lib.Bits.{bitAnd, bitOr, bitXor, differ, and-step, or-step, xor-step, and-shr, or-shr, xor-shr, xor-add-and, and-mask}
@@ -202,6 +202,27 @@ trailing (suc n) w h p = step (trailingZeros n (w / 2)) (trailing n (w / 2) (hal
         clear f zero h = bit-low w ∙ ap digit e
         clear f (suc i) h = sym (bit-half w i) ∙ f i zero-le (omega arith)
     step t ih (suc d) e = record { from = zero-le; below = zero-lt-suc n; there = bit-low w ∙ ap digit e; before = λ i a l. absurd (omega arith) }
+
+-- `w & (w - 1)` has not the lowest bit of w, and the others
+pub lowest-off : (n w : ℕ) → w < 2 ^ n → 0 < w → (i : ℕ) → (bit w i && bit (w - 1) i) ≡ (not (eqb i (trailingZeros n w)) && bit w i)
+unfolding trailingZeros
+lowest-off zero w h p i = absurd (omega (arith, lt-one h))
+lowest-off (suc n) w h p i = step (trailingZeros n (w / 2)) (lowest-off n (w / 2) (half-lt n h)) (w % 2) refl i
+  where
+    step : (t : ℕ) → (0 < w / 2 → (j : ℕ) → (bit (w / 2) j && bit (w / 2 - 1) j) ≡ (not (eqb j t) && bit (w / 2) j))
+        → (d : ℕ) → w % 2 ≡ d → (i : ℕ) → (bit w i && bit (w - 1) i) ≡ (not (eqb i (placed d t)) && bit w i)
+    step t ih zero e zero = let b : bit w 0 ≡ false = bit-low w ∙ ap digit e in ap (λ x. x && bit (w - 1) 0) b ∙ sym (ap (λ x. not (eqb 0 (suc t)) && x) b ∙ and-false (not (eqb 0 (suc t))))
+    step t ih zero e (suc j) =
+        let half : (w - 1) / 2 ≡ w / 2 - 1 = omega arith in
+        ap₂ _&&_ (sym (bit-half w j)) (sym (bit-half (w - 1) j) ∙ ap (λ x. bit x j) half) ∙ ih (omega arith) j
+        ∙ ap₂ (λ x y. not x && y) (sym (eqb·suc-suc j t)) (bit-half w j)
+    step t ih (suc d) e zero =
+        let low : (w - 1) % 2 ≡ 0 = omega arith in
+        ap (λ x. bit w 0 && x) (bit-low (w - 1) ∙ ap digit low) ∙ and-false (bit w 0)
+    step t ih (suc d) e (suc j) =
+        let half : (w - 1) / 2 ≡ w / 2 = omega arith in
+        ap (λ x. bit w (suc j) && x) (sym (bit-half (w - 1) j) ∙ ap (λ x. bit x j) half ∙ bit-half w j) ∙ and-self (bit w (suc j))
+        ∙ sym (ap (λ x. not x && bit w (suc j)) (eqb·suc-zero j))
 
 -- the count of zeros fits a word, and so does a place that far past a bit's
 pub zeros-fit : (w : ℕ) → Fits w64 (trailingZeros 64 w)

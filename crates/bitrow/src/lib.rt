@@ -2,6 +2,7 @@
 ghost use mathlib.Core.Path.{_≡_};
 ghost use mathlib.Core.Bool.{not};
 ghost use Prim.Native.Nat.{_<_, _%_, _-_};
+ghost use lib.Count.{trailingZeros};
 ghost use Rattle.bitrow.specs.Bit.{bit, bitAt};
 ghost use Rattle.bitrow.specs.Set.{nothing, under, atLeast, insert, remove, meet, join, less, hasSome, part, equal, size, lowestFrom};
 
@@ -70,13 +71,28 @@ pub fn has(row: [u64; 4], i: usize) -> bool
     bit_of(row[i / 64], i)
 }
 
+// A row's word i / 64 with i put in.
+pub fn word_with(word: u64, i: usize) -> u64
+    ensures { λ r. ⌜ bit r ≡ insert (i % 64) (bit word) ⌝ }
+{
+    word | (1u64 << (i % 64))
+}
+
+// A word without its lowest bit.
+pub fn without_lowest(word: u64) -> u64
+    requires { ⌜ 0 < word ⌝ }
+    ensures { λ r. ⌜ (bit r ≡ remove (trailingZeros 64 word) (bit word)) × (r < word) ⌝ }
+{
+    word & (word - 1)
+}
+
 pub fn with(row: [u64; 4], i: usize) -> [u64; 4]
     requires { ⌜ i < 256 ⌝ }
     ensures { λ r. ⌜ bitAt r ≡ insert i (bitAt row) ⌝ }
 {
     let mut r = row;
     let k = i / 64;
-    r[k] = r[k] | (1u64 << (i % 64));
+    r[k] = word_with(r[k], i);
     r
 }
 

@@ -13,11 +13,11 @@ use Rattle.block.specs.declared.Fault.{Fault}
 use Rattle.block.specs.declared.Fault.the-variants.{Nowhere, At}
 use Rattle.block.specs.Entry.{Settings, Entry, container, policy}
 use Rattle.block.specs.Bytes.{byteAt, numberAt, checksum}
-use Rattle.block.specs.Fault.{unless}
+use Rattle.block.specs.Fault.{unless, clear}
 use Rattle.block.specs.Refusal.{Refusal, Check, refuse, firstRefusal, accepted, unlessRefused}
 use Rattle.block.specs.Reader.{within, labelsAt, rangeFaults, orderFaults, unusedFault, containerLayout, policyLayout, isContainer, layoutOf, policyIn, entryIn, settingsFault, settingsIn, settingsChecks, entryChecks, readSettings, readEntry}
 use Rattle.block.specs.Written.{validEntry, validSettings}
-use Rattle.block.proofs.Faults.{clear, clear-unless, clear-orElse}
+use Rattle.block.proofs.Faults.{clear-unless, clear-orElse}
 use Rattle.block.proofs.LabelLists.{valid-clear}
 
 -- ---- checks in general

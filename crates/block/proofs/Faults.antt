@@ -7,7 +7,7 @@ use native.Mathlib.Nat.{not-suc-le-zero, le-of-suc-le-suc, add-zero}
 use native.Mathlib.Omega.{arith}
 use Rattle.block.specs.declared.Fault.{Fault}
 use Rattle.block.specs.declared.Fault.the-variants.{Nowhere, At}
-use Rattle.block.specs.Fault.{unless, orElse, first, between}
+use Rattle.block.specs.Fault.{unless, clear, orElse, first, between}
 
 module _ (f : ℕ → Fault) (i to : ℕ) where
   pub between-next : i < to → between f i to ≡ orElse (f i) (between f (i + 1) to)
@@ -29,10 +29,6 @@ module _ (f : ℕ → Fault) (i to : ℕ) where
   between-hit p h e = between-next h ∙ ap (λ (x : Fault). orElse x (between f (i + 1) to)) e
 
 -- ---- no fault, as a test: then each law below is one equation
-
-abbrev pub clear : Fault → Bool
-clear Nowhere = true
-clear (At p) = false
 
 pub clear-none : (f : Fault) → clear f ≡ true → f ≡ Nowhere
 clear-none Nowhere e = refl

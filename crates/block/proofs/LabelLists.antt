@@ -11,11 +11,11 @@ use lib.ListN.{length}
 use lib.Seq.{getD-append-add}
 use Rattle.block.specs.declared.Fault.{Fault}
 use Rattle.block.specs.Entry.{Label}
-use Rattle.block.specs.Fault.{first}
+use Rattle.block.specs.Fault.{clear, first}
 use Rattle.block.specs.Bytes.{numberAt}
 use Rattle.block.specs.Reader.{labelFault, rangeFault, riseFault, orderFault, labelAt, labelsAt}
 use Rattle.block.specs.Written.{numberBytes, labelBytes, inRange, allInRange, risingAfter, rising, validLabels}
-use Rattle.block.proofs.Faults.{clear, clear-unless, clear-orElse}
+use Rattle.block.proofs.Faults.{clear-unless, clear-orElse}
 
 -- a test over n positions, each 4 past the last, is the search for a fault over them
 module _ (f : ℕ → Fault) (test : ℕ → ℕ → Bool) (at : ℕ) where

@@ -10,6 +10,11 @@ abbrev pub unless : Bool → ℕ → Fault
 unless true p = Nowhere
 unless false p = At p
 
+-- whether there is no fault
+abbrev pub clear : Fault → Bool
+clear Nowhere = true
+clear (At p) = false
+
 -- the first fault if there is one, else the second
 abbrev pub orElse : Fault → Fault → Fault
 orElse Nowhere rest = rest

@@ -2,9 +2,10 @@
 ghost use mathlib.Core.Path.{_≡_};
 ghost use mathlib.Core.List.{_∷_, []};
 ghost use Prim.Native.Nat.{_+_, _*_, _≤_, _<_};
+ghost use lib.Dec.{eqb};
 ghost use lib.ListN.{length};
 ghost use Rattle.block.specs.Bytes.{byteAt, numberAt, checksum};
-ghost use Rattle.block.specs.Fault.{unless, orElse};
+ghost use Rattle.block.specs.Fault.{unless, orElse, clear};
 ghost use Rattle.block.specs.Refusal.{check, refuse, firstRefusal};
 ghost use Rattle.block.specs.Reader.{within, labelFault, rangeFault, riseFault, orderFault, zeroFault, rangeFaults, orderFaults, unusedFault, labelsAt, containerLayout, policyLayout, settingsFault, policyIn, frame, settingsChecks, entryChecks};
 ghost use Rattle.block.specs.Reading.{verdictRefusal, packed, settingsOf, entryWords, noEntry, ReadsSettings, ReadsEntry};
@@ -186,11 +187,29 @@ fn order_fault(block: &[u8], at: usize, n: usize) -> Fault
     Fault::Nowhere
 }
 
-// The first byte that is not zero.
+// The bytes from `from` on and before `to`, joined bit by bit: 0 exactly if each of them is. A loop that always runs to
+// its end becomes vector code.
+fn joined(block: &[u8], from: usize, to: usize) -> u8
+    requires { ⌜ to ≤ length (now block) ⌝ }
+    ensures { λ r. ⌜ eqb r 0 ≡ clear (zeroFault (now (block .entry)) from to) ⌝ }
+{
+    let mut bits: u8 = 0;
+    let mut at: usize = from;
+    while at < to {
+        bits |= block[at];
+        at += 1;
+    }
+    bits
+}
+
+// The first byte that is not zero, looked for only where there is one.
 fn zero_fault(block: &[u8], from: usize, to: usize) -> Fault
     requires { ⌜ to ≤ length (now block) ⌝ }
     ensures { λ r. ⌜ r ≡ zeroFault (now (block .entry)) from to ⌝ }
 {
+    if joined(block, from, to) == 0 {
+        return Fault::Nowhere;
+    }
     let mut i: usize = from;
     while i < to {
         if block[i] != 0 {

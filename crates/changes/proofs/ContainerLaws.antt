@@ -11,13 +11,12 @@ use lib.Dec.{eqb, ltb}
 use lib.ListN.{length, getD, set, replicate, length-set, length-replicate, getD-replicate}
 use lib.Seq.{getD-set-same, getD-set-other, set-getD}
 use borrow.Author.Tests.{lt-ltb, le-ltb}
-use Rattle.bitrow.specs.Bit.{bitAt}
+use Rattle.bitrow.specs.Bit.{bit, bitAt}
 use Rattle.bitrow.specs.Set.{nothing, under, insert, meet}
-use Rattle.bitrow.proofs.Sets.{nothing-at, under-in, under-zero, meet-at, meet-nothing, meet-take, meet-skip}
+use Rattle.bitrow.proofs.Sets.{nothing-at, under-in, meet-at}
 use Rattle.bitrow.proofs.Sets.{at as point}
 use Rattle.block.specs.declared.Labels.{Labels}
-use Rattle.block.specs.Entry.{Container, Policy, Settings, container}
-use Rattle.block.specs.Reader.{directionOf}
+use Rattle.block.specs.Entry.{Container, Policy, Settings, ingress, egress, container}
 use Rattle.block.specs.Written.{validEntry}
 use Rattle.block.specs.Reading.{word, padded, packed}
 use Rattle.model.specs.Table.{Table, on, at, stands}
@@ -34,6 +33,7 @@ use Rattle.formed.specs.Registry.{modelIn, registryIn, entryWord, storedBit, co
 use Rattle.formed.proofs.Tests.{both}
 use Rattle.formed.proofs.Parts.{labels-few}
 use Rattle.formed.proofs.Slots.{valid-container}
+use Rattle.formed.proofs.Standing.{meet-in, word-none, word-skip, word-take, two-words}
 use Rattle.formed.proofs.Back.{registry-image, written}
 use Rattle.formed.proofs.Acceptable.{containers-size}
 use Rattle.formed.proofs.Formed.{formed-memory, formed-holds, acceptable-image}
@@ -369,26 +369,28 @@ module _ (m : List ℕ) (ok : wellFormed m ≡ true) (c : ℕ) (hc : c < contain
 
 -- ---- the policies whose set has c
 
-pub record Gathered (n : ℕ) (s : ℕ → ℕ → Bool) (c : ℕ) (r : List ℕ) (p : ℕ) : Type 0 where
-  pub most : p ≤ n
-  pub those : bitAt r ≡ holdingSet p s c
+module _ (sets : ℕ → ℕ → Bool) (c : ℕ) where
+  -- of 64 from a number on, gathered one by one
+  module _ (first : ℕ) where
+    abbrev those : ℕ → ℕ → Bool
+    those k c = sets (first + k) c
 
-module _ {n : ℕ} {s : ℕ → ℕ → Bool} {c : ℕ} {r : List ℕ} where
-  pub gathered-none : bitAt r ≡ nothing → Gathered n s c r 0
+    pub holding-none : bit 0 ≡ holdingSet 0 those c
+    unfolding holdingSet
+    holding-none = word-none (λ k. those k c)
+
+    pub holding-take : (k w v : ℕ) → bit w ≡ holdingSet k those c → k < 64 → bit v ≡ insert (k % 64) (bit w) → sets (first + k) c ≡ true → bit v ≡ holdingSet (k + 1) those c
+    unfolding holdingSet
+    holding-take k w v e h f t = word-take (λ k. those k c) k w e v h f t
+
+    pub holding-skip : (k w : ℕ) → bit w ≡ holdingSet k those c → sets (first + k) c ≡ false → bit w ≡ holdingSet (k + 1) those c
+    unfolding holdingSet
+    holding-skip k w e t = word-skip (λ k. those k c) k w e t
+
+  pub holding-row : (a b : ℕ) → bit a ≡ holdingSet 64 (λ k. sets (0 + k)) c → bit b ≡ holdingSet 64 (λ k. sets (64 + k)) c → bitAt (a ∷ b ∷ 0 ∷ 0 ∷ []) ≡ holdingSet 128 sets c
   unfolding holdingSet
-  gathered-none e = record { most = omega arith; those = e ∙ sym (ap (meet (λ q. s q c)) under-zero ∙ meet-nothing (λ q. s q c)) }
-
-  module _ {p : ℕ} (g : Gathered n s c r p) (h : p < n) where
-    pub gathered-take : {t : List ℕ} → s p c ≡ true → bitAt t ≡ insert p (bitAt r) → Gathered n s c t (p + 1)
-    unfolding holdingSet
-    gathered-take e f = record { most = omega arith; those = f ∙ ap (insert p) (g .those) ∙ meet-take (λ q. s q c) p e }
-
-    pub gathered-skip : s p c ≡ false → Gathered n s c r (p + 1)
-    unfolding holdingSet
-    gathered-skip e = record { most = omega arith; those = g .those ∙ meet-skip (λ q. s q c) p e }
-
-  pub gathered-all : {p : ℕ} → Gathered n s c r p → n ≤ p → bitAt r ≡ holdingSet n s c
-  gathered-all {p} g h = let e : p ≡ n = omega (arith, g .most) in g .those ∙ ap (λ (k : ℕ). holdingSet k s c) e
+  holding-row a b e f =
+      two-words (λ q. sets q c) a b (λ i h. point e i ∙ meet-in (λ k. sets (0 + k) c) 64 i h) (λ i h. point f i ∙ meet-in (λ k. sets (64 + k) c) 64 i h)
 
 holding-at : (n : ℕ) (s : ℕ → ℕ → Bool) (c q : ℕ) → q < n → holdingSet n s c q ≡ s q c
 unfolding holdingSet
@@ -397,9 +399,9 @@ holding-at n s c q h = meet-at (λ i. s i c) (under n) q ∙ ap (λ (t : Bool). 
 -- ---- the rows that the rules give of a model's sets
 
 module _ (p : Model) (c : ℕ) {row column selecting allowing : List ℕ} {sel alw : List (List ℕ)} where
-  pub bits-by-rules : bitAt row ≡ lineBit p (directionOf 2) c → bitAt column ≡ lineBit p (directionOf 1) c → SetsOf p sel alw
+  pub bits-by-rules : bitAt row ≡ lineBit p egress c → bitAt column ≡ lineBit p ingress c → SetsOf p sel alw
       → bitAt selecting ≡ holdingSet policySlots (bits sel) c → bitAt allowing ≡ holdingSet policySlots (bits alw) c → BitsOf c (computedBits p) row column selecting allowing
-  unfolding directionOf computedBits
+  unfolding computedBits
   bits-by-rules er ec sets es ea = record {
     row = λ b h. point (er ∙ line-row p c) b;
     column = λ a h. point (ec ∙ line-column p c) a;

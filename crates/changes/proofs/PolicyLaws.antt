@@ -30,7 +30,7 @@ use Rattle.store.specs.Memory.{slotSet, rowSet, withSlot, withRow}
 use Rattle.store.proofs.Cases.{by-ltb, by-eqb}
 use Rattle.store.proofs.Carried.{SameContents, holds-as, holds-by, row-bit, slot-in, slot-out, holds-slot, holds-row}
 use Rattle.formed.specs.Words.{labelWord, partWord, settingsWord, containerWord, policyWord, policyAt, policyIn}
-use Rattle.formed.specs.Registry.{modelIn, registryIn, entryWord, storedBit, contentsOf, image, freeOr, Acceptable, wellFormed}
+use Rattle.formed.specs.Registry.{modelIn, bitsIn, registryIn, entryWord, storedBit, contentsOf, image, freeOr, Acceptable, wellFormed}
 use Rattle.formed.proofs.Tests.{clash}
 use Rattle.formed.proofs.Parts.{labels-few}
 use Rattle.formed.proofs.Slots.{valid-policy, direction-back, first-word}
@@ -43,7 +43,7 @@ use Rattle.reach.proofs.Candidates.{policies-length}
 use Rattle.changes.specs.Labels.{unpacked}
 use Rattle.changes.proofs.LabelLaws.{padded-at, unpacked-back}
 use Rattle.changes.proofs.StoredLaws.{Fit, ltb-step, stored-matrix, stored-selected, stored-allowed, stored-cong}
-use Rattle.changes.specs.PolicyChange.{policyOf, PolicyWords, SaysPolicy, SlotWords, Admissible, placed, settled, Settles, resetWhere, product, masked, RowReset, selection, ResetsFor}
+use Rattle.changes.specs.PolicyChange.{policyOf, PolicyWords, SaysPolicy, SlotWords, Admissible, placed, settled, Settles, resetWhere, product, masked, RowReset, selection, ResetsFor, SetsStored}
 
 -- ---- rows
 
@@ -252,6 +252,14 @@ module _ (m : List ℕ) (ok : wellFormed m ≡ true) (q : ℕ) (hq : q < 128) (x
       unfolding placed
       emptied-model = sym (model-in e3) ∙ ap (λ (z : Registry). z .model) (image-says emptied-acceptable emptied-image)
 
+      pub emptied-standing : stands (modelIn m .containers) ≡ stands (modelIn e3 .containers)
+      unfolding withPolicy registryIn
+      emptied-standing = ap (λ (z : Model). stands (z .containers)) (sym emptied-model)
+
+      pub settled-selected : (s : List ℕ) → bitAt s ≡ selectedBit (modelIn e3) q → bitAt s ≡ selectedBit (withPolicy (modelIn m) q x) q
+      unfolding registryIn
+      settled-selected s es = es ∙ ap (λ (z : Model). selectedBit z q) emptied-model
+
       pub settled-image : (s a : List ℕ) {e4 e5 : List ℕ} → bitAt s ≡ selectedBit (modelIn e3) q → bitAt a ≡ allowedBit (modelIn e3) q
           → e4 ≡ rowSet e3 (selectedRow q) s → e5 ≡ rowSet e4 (allowedRow q) a → Fit e5 → e5 ≡ image (settled (registryIn m) q x)
       unfolding settled
@@ -451,7 +459,7 @@ selection-with : (m : Model) (q : ℕ) (x : Option Policy) (p : Policy) → sele
 unfolding selection withPolicy
 selection-with m q x p = refl
 
-module _ (m : List ℕ) (ok : wellFormed m ≡ true) (q : ℕ) (hq : q < 128) (x : Option Policy) (v : Admissible (modelIn m .settings) x) {ws : List ℕ} (w : SlotWords x ws) {m′ : List ℕ} (f : Settles m q ws m′) where
+module _ (m : List ℕ) (ok : wellFormed m ≡ true) (q : ℕ) (hq : q < 128) (x : Option Policy) (v : Admissible (modelIn m .settings) x) {ws : List ℕ} (w : SlotWords x ws) {m′ r : List ℕ} (f : Settles m q ws m′ r) where
   settled-says : registryIn m′ ≡ settled (registryIn m) q x
   settled-says = image-says (settled-acceptable m ok q hq x v) (f .says x w v)
 
@@ -462,9 +470,24 @@ module _ (m : List ℕ) (ok : wellFormed m ≡ true) (q : ℕ) (hq : q < 128) (x
   unfolding settled placed registryIn
   settled-model = ap (λ (z : Registry). z .model) settled-says
 
+  pub settled-standing : stands (modelIn m .containers) ≡ stands (modelIn m′ .containers)
+  unfolding withPolicy
+  settled-standing = ap (λ (z : Model). stands (z .containers)) (sym settled-model)
+
   pub settled-at : at (modelIn m′ .policies) q ≡ x
   unfolding withPolicy
   settled-at = ap (λ (z : Model). at (z .policies) q) settled-model ∙ at-here (modelIn m) q x (policies-length m) hq
+
+  pub settled-stored : SetsStored m′ q
+  unfolding settled placed registryIn
+  settled-stored =
+      let n = withPolicy (modelIn m) q x in
+      record {
+        selected = ap (λ (z : Registry). z .bits .selected q) settled-says ∙ fun-ext (made-here q (selectedBit n q) (bitsIn m .selected))
+            ∙ ap (λ (z : Model). selectedBit z q) (sym settled-model);
+        allowed = ap (λ (z : Registry). z .bits .allowed q) settled-says ∙ fun-ext (made-here q (allowedBit n q) (bitsIn m .allowed))
+            ∙ ap (λ (z : Model). allowedBit z q) (sym settled-model);
+      }
 
   pub policy-done : {e : List ℕ} (d : ℕ) (s : ℕ → Bool) (p : Policy) → ResetsFor m′ d s e → d ≡ directionNumber (p .direction) → s ≡ selection (modelIn m′) p
       → e ≡ image (changePolicy (registryIn m) q p x)
@@ -473,10 +496,11 @@ module _ (m : List ℕ) (ok : wellFormed m ≡ true) (q : ℕ) (hq : q < 128) (x
       g .says p ed es ∙ ap (λ (z : Registry). image (resetWhere z (touched (z .model) p))) settled-says ∙ ap image (change-is (registryIn m) q p x)
 
 -- the policy comes
-module _ (m : List ℕ) (ok : wellFormed m ≡ true) (q : ℕ) (hq : q < 128) {p : Policy} (v : validEntry (modelIn m .settings) (policy p) ≡ true) {ws : List ℕ} (w : SlotWords (some p) ws) {m′ : List ℕ} (f : Settles m q ws m′) where
-  pub put-done : {e : List ℕ} (d : ℕ) (s : ℕ → Bool) → ResetsFor m′ d s e → d ≡ directionNumber (p .direction) → s ≡ selectedBit (modelIn m′) q
-      → e ≡ image (changePolicy (registryIn m) q p (some p))
-  put-done d s g ed es = policy-done m ok q hq (some p) v w f d s p g ed (es ∙ selected-selection (modelIn m′) q p (settled-at m ok q hq (some p) v w f))
+module _ (m : List ℕ) (ok : wellFormed m ≡ true) (q : ℕ) (hq : q < 128) {p : Policy} (v : validEntry (modelIn m .settings) (policy p) ≡ true) {ws : List ℕ} (w : SlotWords (some p) ws) {m′ r : List ℕ} (f : Settles m q ws m′ r) where
+  pub put-done : {e : List ℕ} (d : ℕ) → ResetsFor m′ d (bitAt r) e → d ≡ directionNumber (p .direction) → e ≡ image (changePolicy (registryIn m) q p (some p))
+  put-done d g ed =
+      policy-done m ok q hq (some p) v w f d (bitAt r) p g ed
+      (f .selected (some p) w v ∙ ap (λ (z : Model). selectedBit z q) (sym (settled-model m ok q hq (some p) v w f)) ∙ selected-selection (modelIn m′) q p (settled-at m ok q hq (some p) v w f))
 
 -- the policy goes
 module _ (m : List ℕ) (ok : wellFormed m ≡ true) (q : ℕ) (hq : q < 128) (st : stands (modelIn m .policies) q ≡ true) where
@@ -485,9 +509,9 @@ module _ (m : List ℕ) (ok : wellFormed m ≡ true) (q : ℕ) (hq : q < 128) (s
       first-word m (policyStart q) 10 (policyWord (policyIn m q)) (formed-policy m ok q hq)
       ∙ ap (λ o. policyWord o 0) (sym (policy-slot m q hq) ∙ policy-at m q st)
 
-  pub take-done : {ws m′ e : List ℕ} → SlotWords none ws → Settles m q ws m′ → (s : ℕ → Bool) → ResetsFor m′ (wordAt m (policyStart q)) s e → s ≡ selectedBit (modelIn m) q
+  pub take-done : {ws m′ r e : List ℕ} → SlotWords none ws → Settles m q ws m′ r → (s : ℕ → Bool) → ResetsFor m′ (wordAt m (policyStart q)) s e → s ≡ selectedBit (modelIn m) q
       → e ≡ image (changePolicy (registryIn m) q (policyAt m q) none)
-  take-done {ws} {m′} {e} w f s g es =
+  take-done {ws} {m′} {r} {e} w f s g es =
       policy-done m ok q hq none refl w f (wordAt m (policyStart q)) s (policyAt m q) g direction-at
       (es ∙ selected-selection (modelIn m) q (policyAt m q) (policy-at m q st) ∙ selection-with (modelIn m) q none (policyAt m q)
       ∙ ap (λ (z : Model). selection z (policyAt m q)) (sym (settled-model m ok q hq none refl w f)))

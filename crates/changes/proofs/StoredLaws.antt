@@ -1,16 +1,18 @@
 -- The stored bits by their three tables, and what a memory's words are to fit. Assumes nothing.
 use mathlib.Core.Path.{_≡_, refl, sym, ap, ap₂, _∙_, fun-ext}
-use mathlib.Core.Bool.{Bool, true, false, cond}
+use mathlib.Core.Bool.{Bool, true, false, _&&_, cond}
 use mathlib.Core.List.{List}
 use Prim.Native.Nat.{ℕ, _+_, _-_, _/_, _%_, _^_, _<_, _≤_}
 use native.Mathlib.Omega.{arith}
 use lib.Dec.{eqb, ltb}
 use borrow.Author.Tests.{lt-ltb, le-ltb, eq-eqb, ne-eqb}
+use Rattle.bitrow.specs.Bit.{bitAt}
 use Rattle.bitrow.proofs.Sets.{at as point}
-use Rattle.model.specs.Model.{containerSlots, Bits}
-use Rattle.store.specs.Layout.{selectedRow, allowedRow, wordAt}
+use Rattle.model.specs.Model.{containerSlots, policySlots, Bits}
+use Rattle.store.specs.Layout.{selectedRow, allowedRow, wordAt, rowAt, rowBit}
 use Rattle.store.proofs.Cases.{by-ltb, by-eqb}
-use Rattle.formed.specs.Registry.{storedBit}
+use Rattle.store.proofs.Carried.{row-bits}
+use Rattle.formed.specs.Registry.{bitWithin, bitsIn, storedBit}
 
 abbrev pub Fit : List ℕ → Type 0
 Fit m = (k : ℕ) → wordAt m k < 2 ^ 64
@@ -43,6 +45,21 @@ module _ (s : Bits) (q : ℕ) where
 
   pub stored-allowed : storedBit s (allowedRow q) ≡ s .allowed q
   stored-allowed = let e : (allowedRow q - containerSlots) / 2 ≡ q = omega arith in stored-odd s (allowedRow q) (omega arith) (λ z. omega arith) ∙ ap (s .allowed) e
+
+-- ---- a row, read
+
+module _ (m : List ℕ) where
+  pub row-within : (n x r : ℕ) → x < n → bitAt (rowAt m r) ≡ bitWithin m n x r
+  unfolding bitWithin
+  row-within n x r h = row-bits m r ∙ fun-ext (λ y. ap (λ (t : Bool). t && (ltb y containerSlots && rowBit m r y)) (sym (lt-ltb x n h)))
+
+  pub selected-row : (q : ℕ) → q < policySlots → bitAt (rowAt m (selectedRow q)) ≡ bitsIn m .selected q
+  unfolding bitsIn
+  selected-row q h = row-within policySlots q (selectedRow q) h
+
+  pub allowed-row : (q : ℕ) → q < policySlots → bitAt (rowAt m (allowedRow q)) ≡ bitsIn m .allowed q
+  unfolding bitsIn
+  allowed-row q h = row-within policySlots q (allowedRow q) h
 
 -- ---- a bit
 

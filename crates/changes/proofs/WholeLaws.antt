@@ -1,6 +1,6 @@
 -- Every stored bit by the rules: what a rebuild leaves and an audit compares; and the counts. Assumes nothing.
-use mathlib.Core.Path.{_≡_, refl, sym, ap, ap₂, _∙_, subst, fun-ext}
-use mathlib.Core.Bool.{Bool, true, false, _&&_, cond}
+use mathlib.Core.Path.{_≡_, refl, sym, ap, ap₂, _∙_, subst}
+use mathlib.Core.Bool.{Bool, true, false, cond}
 use mathlib.Core.List.{List, [], _∷_}
 use mathlib.Core.Option.{none, some}
 use Prim.Native.Nat.{ℕ, zero, suc, _+_, _*_, _-_, _/_, _<_, _≤_}
@@ -15,43 +15,29 @@ use Rattle.bitrow.specs.Set.{nothing, one, equal, size}
 use Rattle.bitrow.proofs.Sets.{at as point}
 use Rattle.bitrow.proofs.Sizes.{size-zero, size-low, size-le, size-cong, size-nothing}
 use Rattle.bitrow.proofs.Tests.{same-test, equal-all, equal-in}
-use Rattle.block.specs.Entry.{egress}
 use Rattle.model.specs.Table.{Table, on, at, stands, count, upFrom, below, standingFrom, standing}
-use Rattle.model.specs.Model.{containerSlots, policySlots, Model, Bits, computedBits}
+use Rattle.model.specs.Model.{containerSlots, policySlots, Bits, computedBits}
 use Rattle.model.specs.Registry.{Registry, computed, rebuilt, consistent, Agree, FollowsRules}
 use Rattle.model.specs.Findings.{containersOf, policiesOf, pairsIn, pairs}
 use Rattle.model.proofs.Consistent.{consistent-exactly}
-use Rattle.store.specs.Layout.{rowAt, rowBit}
+use Rattle.store.specs.Layout.{rowAt}
 use Rattle.store.specs.Contents.{Contents, Holds}
 use Rattle.store.specs.Memory.{rowSet, withRow}
 use Rattle.store.proofs.Cases.{by-eqb}
-use Rattle.store.proofs.Carried.{SameContents, holds-as, holds-by, holds-row, row-bit, row-bits}
-use Rattle.formed.specs.Registry.{modelIn, bitWithin, bitsIn, registryIn, storedBit, contentsOf, image, wellFormed}
+use Rattle.store.proofs.Carried.{SameContents, holds-as, holds-by, holds-row, row-bit}
+use Rattle.formed.specs.Registry.{modelIn, bitsIn, registryIn, storedBit, contentsOf, image, wellFormed}
 use Rattle.formed.specs.Tests.{between}
 use Rattle.formed.proofs.Runs.{between-at, between-all}
 use Rattle.formed.proofs.Back.{matrix-bit, selected-bit, allowed-bit, written}
 use Rattle.formed.proofs.Formed.{formed-holds}
 use Rattle.formed.proofs.Acceptable.{containers-size, policies-size}
-use Rattle.reach.specs.declared.rules.Sides.{Sides}
-use Rattle.reach.specs.Lets.{bits}
-use Rattle.reach.specs.Sets.{SetsOf, SidesOf}
-use Rattle.reach.proofs.Model.{row-law}
-use Rattle.changes.specs.RuleBits.{ruleBits}
-use Rattle.changes.proofs.StoredLaws.{Fit, ltb-step, stored-cong}
+use Rattle.changes.proofs.StoredLaws.{Fit, ltb-step, row-within, stored-cong}
 
 -- bits that agree at their slots are stored alike
 module _ (s t : Bits) (y : ℕ) (f : (a : ℕ) → a < containerSlots → s .matrix a y ≡ t .matrix a y)
     (g : (q : ℕ) → q < policySlots → s .selected q y ≡ t .selected q y) (h : (q : ℕ) → q < policySlots → s .allowed q y ≡ t .allowed q y) where
   stored-alike : (x : ℕ) → x < 512 → storedBit s x y ≡ storedBit t x y
   stored-alike x l = stored-cong s t x y (λ k. f x k) (λ k e. g ((x - 256) / 2) (omega arith)) (λ k e. h ((x - 256) / 2) (omega arith))
-
--- ---- the bits by the rules over candidate sets are the model's
-
-module _ (m : Model) {sel alw : List (List ℕ)} (slots : length (m .policies) ≡ policySlots) (sets : SetsOf m sel alw) {s : Sides} (sides : SidesOf m egress sel s) where
-  pub rule-row : (x : ℕ) → x < 512 → storedBit (ruleBits s (bits sel) (bits alw)) x ≡ storedBit (computedBits m) x
-  unfolding ruleBits computedBits
-  rule-row x l = fun-ext (λ y. stored-alike (ruleBits s (bits sel) (bits alw)) (computedBits m) y
-      (λ a k. point (row-law m slots sets sides a) y) (λ q k. point (sets .selected .row q k) y) (λ q k. point (sets .allowed .row q k) y) x l)
 
 -- ---- what a rebuild leaves
 
@@ -203,8 +189,8 @@ pairs-counted s g h = counting-all g h
 
 -- a row of the matrix, read
 pub matrix-row : (m : List ℕ) (a : ℕ) → a < containerSlots → bitAt (rowAt m a) ≡ bitsIn m .matrix a
-unfolding bitsIn bitWithin
-matrix-row m a h = row-bits m a ∙ fun-ext (λ y. ap (λ (t : Bool). t && (ltb y containerSlots && rowBit m a y)) (sym (lt-ltb a containerSlots h)))
+unfolding bitsIn
+matrix-row m a h = row-within m containerSlots a a h
 
 -- `count(row_at(memory, a))`
 pub row-counted : (m : List ℕ) (a : ℕ) {row : List ℕ} {k : ℕ} → row ≡ rowAt m a → k ≡ size (bitAt row) 256 → a < containerSlots → k ≡ size (bitsIn m .matrix a) 256

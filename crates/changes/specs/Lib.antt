@@ -2,4 +2,4 @@
 pub mod Labels
 pub mod OneContainer
 pub mod PolicyChange
-pub mod RuleBits
+pub mod StoredRows

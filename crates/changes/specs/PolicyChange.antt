@@ -6,6 +6,7 @@ use mathlib.Core.Option.{Option}
 use Prim.Native.Nat.{ℕ, _<_}
 use lib.Dec.{eqb}
 use lib.ListN.{getD}
+use Rattle.bitrow.specs.Bit.{bitAt}
 use Rattle.block.specs.declared.Labels.{Labels}
 use Rattle.block.specs.Entry.{Policy, Settings, policy}
 use Rattle.block.specs.Reader.{directionOf}
@@ -18,7 +19,7 @@ use Rattle.model.specs.Registry.{Registry, setWhere, touched}
 use Rattle.store.specs.Contents.{Contents, Holds}
 use Rattle.store.specs.Memory.{withRow}
 use Rattle.formed.specs.Words.{policyWord}
-use Rattle.formed.specs.Registry.{freeOr, modelIn, registryIn, image}
+use Rattle.formed.specs.Registry.{freeOr, modelIn, bitsIn, registryIn, image}
 use Rattle.changes.specs.Labels.{unpacked}
 
 -- ---- a policy as words
@@ -69,8 +70,10 @@ placed r q x s a = record {
 unfoldable pub settled : Registry → ℕ → Option Policy → Registry
 settled r q x = let m = withPolicy (r .model) q x in placed r q x (selectedBit m q) (allowedBit m q)
 
-pub record Settles (m : List ℕ) (q : ℕ) (ws m′ : List ℕ) : Type 0 where
+-- m′ is m with that, for the x whose words are ws; r is what it selects
+pub record Settles (m : List ℕ) (q : ℕ) (ws m′ r : List ℕ) : Type 0 where
   pub says : (x : Option Policy) → SlotWords x ws → Admissible (modelIn m .settings) x → m′ ≡ image (settled (registryIn m) q x)
+  pub selected : (x : Option Policy) → SlotWords x ws → Admissible (modelIn m .settings) x → bitAt r ≡ selectedBit (withPolicy (modelIn m) q x) q
 
 -- the named bits of the matrix by the rules
 unfoldable pub resetWhere : Registry → (ℕ → ℕ → Bool) → Registry
@@ -102,3 +105,8 @@ selection m p c = on (selects p) (at (m .containers) c)
 -- the bits of the matrix that a policy of direction d touches, which selects s, are by the rules
 pub record ResetsFor (m : List ℕ) (d : ℕ) (s : ℕ → Bool) (m′ : List ℕ) : Type 0 where
   pub says : (p : Policy) → d ≡ directionNumber (p .direction) → s ≡ selection (modelIn m) p → m′ ≡ image (resetWhere (registryIn m) (touched (modelIn m) p))
+
+-- the sets stored for policy q are by the entries
+pub record SetsStored (m : List ℕ) (q : ℕ) : Type 0 where
+  pub selected : bitsIn m .selected q ≡ selectedBit (modelIn m) q
+  pub allowed : bitsIn m .allowed q ≡ allowedBit (modelIn m) q

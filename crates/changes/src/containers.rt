@@ -2,15 +2,13 @@
 ghost use mathlib.Core.Path.{_≡_};
 ghost use mathlib.Core.Bool.{true};
 ghost use mathlib.Core.Option.{none, some};
-ghost use Prim.Native.Nat.{_≤_, _<_};
-ghost use Rattle.bitrow.specs.Bit.{bitAt};
-ghost use Rattle.block.specs.Reader.{directionOf};
+ghost use Prim.Native.Nat.{_+_, _≤_, _<_};
+ghost use Rattle.bitrow.specs.Bit.{bit, bitAt};
 ghost use Rattle.block.specs.Reading.{settingsOf};
 ghost use Rattle.model.specs.Registry.{changeContainer, opened};
 ghost use Rattle.store.specs.Layout.{Whole};
 ghost use Rattle.formed.specs.Registry.{modelIn, registryIn, image, wellFormed};
 ghost use Rattle.reach.specs.Lets.{bits};
-ghost use Rattle.reach.specs.Sets.{SetsOf, lineBit};
 ghost use Rattle.changes.specs.Labels.{unpacked};
 ghost use Rattle.changes.specs.OneContainer.{SaysContainer, slotWords, bitsSet, holdingSet, refreshed};
 
@@ -35,39 +33,30 @@ fn slot_words(labels: block::Labels) -> [u64; 11]
     ]
 }
 
-// The policies whose set has c.
-fn holding(sets: &[[u64; 4]; 128], c: usize) -> [u64; 4]
-    requires { ⌜ c < 256 ⌝ }
-    ensures { λ r. ⌜ bitAt r ≡ holdingSet 128 (bits (now (sets .entry))) c ⌝ }
+// A bit for each of 64 policies from `first` on: set where the policy's set has c.
+fn holding_word(sets: &[[u64; 4]; 128], first: usize, c: usize) -> u64
+    requires { ⌜ (first ≤ 64) × (c < 256) ⌝ }
+    ensures { λ r. ⌜ bit r ≡ holdingSet 64 (λ k. bits (now (sets .entry)) (first + k)) c ⌝ }
 {
-    let mut those = bitrow::none();
+    let mut those = 0u64;
     let word = c / 64;
-    let mut p = 0;
-    while p < 128 {
-        let q = p;
-        p += 1;
-        if bitrow::bit_of(sets[q][word], c) {
-            let next = bitrow::with(those, q);
-            those = next;
+    let mut i = 0;
+    while i < 64 {
+        let k = i;
+        i += 1;
+        if bitrow::bit_of(sets[first + k][word], c) {
+            those = bitrow::word_with(those, k);
         }
     }
     those
 }
 
-// Container c's row by the rules for direction 2, egress, and its column for direction 1, ingress.
-fn line_of(
-    memory: &[u64],
-    selected: &[[u64; 4]; 128],
-    allowed: &[[u64; 4]; 128],
-    c: usize,
-    direction: u64,
-) -> [u64; 4]
-    requires { ⌜ (wellFormed (now memory) ≡ true) × (c < 256) × (1 ≤ direction) × (direction ≤ 2) ⌝ }
-    requires { ⌜ SetsOf (modelIn (now memory)) (now selected) (now allowed) ⌝ }
-    ensures { λ r. ⌜ bitAt r ≡ lineBit (modelIn (now (memory .entry))) (directionOf direction) c ⌝ }
+// The policies whose set has c.
+fn holding(sets: &[[u64; 4]; 128], c: usize) -> [u64; 4]
+    requires { ⌜ c < 256 ⌝ }
+    ensures { λ r. ⌜ bitAt r ≡ holdingSet 128 (bits (now (sets .entry))) c ⌝ }
 {
-    let sides = reach::sets::sides_of(memory, selected, direction);
-    reach::rules::row_by_rules(c, sides, selected, allowed)
+    [holding_word(sets, 0, c), holding_word(sets, 64, c), 0, 0]
 }
 
 // Container c's row and column of the matrix stored, and its bit in each policy's selected and allowed set.
@@ -93,10 +82,14 @@ fn refresh(memory: &mut [u64], c: usize)
     requires { ⌜ (wellFormed (now memory) ≡ true) × (c < 256) ⌝ }
     ensures { λ u. ⌜ now (memory .exit) ≡ image (refreshed (registryIn (now (memory .entry))) c) ⌝ }
 {
-    let selected = reach::sets::selected_sets(memory);
-    let allowed = reach::sets::allowed_sets(memory);
-    let row = line_of(memory, &selected, &allowed, c, 2);
-    let column = line_of(memory, &selected, &allowed, c, 1);
+    let mut selected = [[0u64; 4]; 128];
+    let mut allowed = [[0u64; 4]; 128];
+    let standing = formed::containers_standing(memory);
+    reach::sets::fill_sets(memory, standing, 128, &mut selected, &mut allowed);
+    let across = reach::sets::sides_of(memory, standing, &selected, 2);
+    let row = reach::rules::row_by_rules(c, across, &selected, &allowed);
+    let down = reach::sets::exchanged(across, &selected);
+    let column = reach::rules::row_by_rules(c, down, &selected, &allowed);
     let selecting = holding(&selected, c);
     let allowing = holding(&allowed, c);
     store_bits(memory, c, row, column, selecting, allowing);

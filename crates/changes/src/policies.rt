@@ -10,24 +10,21 @@ ghost use Rattle.model.specs.Registry.{changePolicy};
 ghost use Rattle.store.specs.Layout.{Whole};
 ghost use Rattle.formed.specs.Words.{policyAt};
 ghost use Rattle.formed.specs.Registry.{modelIn, registryIn, image, wellFormed};
-ghost use Rattle.reach.specs.Lets.{bits, union, line};
-ghost use Rattle.changes.specs.PolicyChange.{policyOf, PolicyWords, SaysPolicy, SlotWords, SomeSlot, Settles, RowReset, product, resetWhere, ResetsFor};
+ghost use Rattle.changes.specs.PolicyChange.{policyOf, PolicyWords, SaysPolicy, SlotWords, SomeSlot, Settles, RowReset, product, resetWhere, ResetsFor, SetsStored};
 
-// What policy q selects.
-fn selected_row(memory: &[u64], q: usize) -> [u64; 4]
-    requires { ⌜ (wellFormed (now memory) ≡ true) × (q < 128) ⌝ }
+// What policy q selects of the standing containers.
+fn selected_row(memory: &[u64], q: usize, standing: [u64; 4]) -> [u64; 4]
+    requires { ⌜ (wellFormed (now memory) ≡ true) × (q < 128) × (bitAt standing ≡ stands (modelIn (now memory) .containers)) ⌝ }
     ensures { λ r. ⌜ bitAt r ≡ selectedBit (modelIn (now (memory .entry))) q ⌝ }
 {
-    let standing = formed::containers_standing(memory);
     reach::sets::part_row(memory, q, 1, standing)
 }
 
-// What policy q allows.
-fn allowed_row(memory: &[u64], q: usize) -> [u64; 4]
-    requires { ⌜ (wellFormed (now memory) ≡ true) × (q < 128) ⌝ }
+// What it allows of them.
+fn allowed_row(memory: &[u64], q: usize, standing: [u64; 4]) -> [u64; 4]
+    requires { ⌜ (wellFormed (now memory) ≡ true) × (q < 128) × (bitAt standing ≡ stands (modelIn (now memory) .containers)) ⌝ }
     ensures { λ r. ⌜ bitAt r ≡ allowedBit (modelIn (now (memory .entry))) q ⌝ }
 {
-    let standing = formed::containers_standing(memory);
     reach::sets::part_row(memory, q, 6, standing)
 }
 
@@ -55,72 +52,83 @@ fn slot_words(direction: u64, select: block::Labels, allow: block::Labels) -> [u
     ]
 }
 
-// Slot q holds what these words say, and its two sets are by the entries.
-fn settle(memory: &mut [u64], q: usize, words: [u64; 11])
+// Slot q holds what these words say, and its two sets are by the entries. Gives what the policy there selects.
+fn settle(memory: &mut [u64], q: usize, words: [u64; 11], standing: [u64; 4]) -> [u64; 4]
     requires { ⌜ (wellFormed (now memory) ≡ true) × (q < 128) × SomeSlot (modelIn (now memory) .settings) words ⌝ }
-    ensures { λ u. ⌜ Settles (now (memory .entry)) q words (now (memory .exit)) ⌝ }
+    requires { ⌜ bitAt standing ≡ stands (modelIn (now memory) .containers) ⌝ }
+    ensures { λ r. ⌜ Settles (now (memory .entry)) q words (now (memory .exit)) r ⌝ }
 {
     let nobody = bitrow::none();
     store::set_slot(memory, store::POLICIES + 11 * q, 11, words);
     store::set_row(memory, 256 + 2 * q, nobody);
     store::set_row(memory, 257 + 2 * q, nobody);
-    let selected = selected_row(memory, q);
-    let allowed = allowed_row(memory, q);
+    let selected = selected_row(memory, q, standing);
+    let allowed = allowed_row(memory, q, standing);
     store::set_row(memory, 256 + 2 * q, selected);
     store::set_row(memory, 257 + 2 * q, allowed);
+    selected
 }
 
-// The bits of row a that are in the columns, set by the rules.
-fn reset_row(
-    memory: &mut [u64],
-    a: usize,
-    columns: [u64; 4],
-    sides: reach::rules::Sides,
-    selected: &[[u64; 4]; 128],
-    allowed: &[[u64; 4]; 128],
-)
+// The bits of row a that are in the columns, set to those of a row by the rules.
+fn reset_row(memory: &mut [u64], a: usize, columns: [u64; 4], ruled: [u64; 4])
     requires { ⌜ Whole (now memory) × (a < 256) ⌝ }
-    requires { ⌜ bitAt (sides .chosen) ≡ union (bitAt (sides .back)) (bits (now selected)) 128 ⌝ }
-    ensures { λ u. ⌜ RowReset (now (memory .entry)) (now (memory .exit)) a (bitAt columns) (line 128 (bitAt (sides .standing)) (bitAt (sides .out)) (bitAt (sides .back)) (bits (now (selected .entry))) (bits (now (allowed .entry))) a) ⌝ }
+    ensures { λ u. ⌜ RowReset (now (memory .entry)) (now (memory .exit)) a (bitAt columns) (bitAt ruled) ⌝ }
 {
     let old = store::row_at(memory, a);
-    let ruled = reach::rules::row_by_rules(a, sides, selected, allowed);
     let row = bitrow::either(bitrow::except(old, columns), bitrow::both(ruled, columns));
     store::set_row(memory, a, row);
 }
 
-// The bits of the matrix in these rows and columns, set by the rules from the entries.
-fn reset_rows(memory: &mut [u64], rows: [u64; 4], columns: [u64; 4])
-    requires { ⌜ wellFormed (now memory) ≡ true ⌝ }
+// The bits of the matrix in these rows and columns, set by the rules from the entries. Policy q's sets are taken as they are stored.
+fn reset_rows(memory: &mut [u64], q: usize, rows: [u64; 4], columns: [u64; 4], standing: [u64; 4])
+    requires { ⌜ (wellFormed (now memory) ≡ true) × (bitAt standing ≡ stands (modelIn (now memory) .containers)) ⌝ }
+    requires { ⌜ (q < 128) × SetsStored (now memory) q ⌝ }
     ensures { λ u. ⌜ now (memory .exit) ≡ image (resetWhere (registryIn (now (memory .entry))) (product (bitAt rows) (bitAt columns))) ⌝ }
 {
-    let selected = reach::sets::selected_sets(memory);
-    let allowed = reach::sets::allowed_sets(memory);
-    let sides = reach::sets::sides_of(memory, &selected, 2);
+    let mut selected = [[0u64; 4]; 128];
+    let mut allowed = [[0u64; 4]; 128];
+    let selects = store::row_at(memory, 256 + 2 * q);
+    selected[q] = selects;
+    let allows = store::row_at(memory, 257 + 2 * q);
+    allowed[q] = allows;
+    let mut outs = [[0u64; 4]; 256];
+    let mut backs = [[0u64; 4]; 256];
+    let gathered = reach::lines::gather(
+        memory,
+        standing,
+        q,
+        rows,
+        &mut selected,
+        &mut allowed,
+        &mut outs,
+        &mut backs,
+    );
     let mut a = 0;
     while a < 256 {
         let row = a;
         a += 1;
         if bitrow::has(rows, row) {
-            reset_row(memory, row, columns, sides, &selected, &allowed);
+            let ruled = reach::lines::line_from(row, gathered, &outs, &backs);
+            reset_row(memory, row, columns, ruled);
         }
     }
 }
 
-// The bits that a policy of this direction, which selects these containers, has to do with: set by the rules from the entries.
-fn reset(memory: &mut [u64], direction: u64, selected: [u64; 4])
-    requires { ⌜ wellFormed (now memory) ≡ true ⌝ }
+// The bits that a policy of this direction, which selects these containers, has to do with: set by the rules from the entries. The
+// sets stored for slot q are by them already.
+fn reset(memory: &mut [u64], q: usize, direction: u64, selected: [u64; 4], standing: [u64; 4])
+    requires { ⌜ (wellFormed (now memory) ≡ true) × (bitAt standing ≡ stands (modelIn (now memory) .containers)) ⌝ }
+    requires { ⌜ (q < 128) × SetsStored (now memory) q ⌝ }
     ensures { λ u. ⌜ ResetsFor (now (memory .entry)) direction (bitAt selected) (now (memory .exit)) ⌝ }
 {
     if bitrow::is_empty(selected) {
         return;
     }
-    let standing = formed::containers_standing(memory);
     if direction == 2 {
-        reset_rows(memory, selected, standing);
+        reset_rows(memory, q, selected, standing, standing);
         return;
     }
-    reset_rows(memory, standing, selected);
+    reset_rows(memory, q, standing, selected, standing);
 }
 
 // A policy comes to slot q: this direction, 1 ingress, 2 egress, and these parts.
@@ -135,9 +143,9 @@ pub fn put_policy(
     ensures { λ u. ⌜ now (memory .exit) ≡ image (changePolicy (registryIn (now (memory .entry))) q (policyOf direction select allow) (some (policyOf direction select allow))) ⌝ }
 {
     let words = slot_words(direction, select, allow);
-    settle(memory, q, words);
-    let selected = selected_row(memory, q);
-    reset(memory, direction, selected);
+    let standing = formed::containers_standing(memory);
+    let selected = settle(memory, q, words, standing);
+    reset(memory, q, direction, selected, standing);
 }
 
 // The policy at slot q goes.
@@ -146,8 +154,9 @@ pub fn take_policy(memory: &mut [u64], q: usize)
     ensures { λ u. ⌜ now (memory .exit) ≡ image (changePolicy (registryIn (now (memory .entry))) q (policyAt (now (memory .entry)) q) none) ⌝ }
 {
     let direction = memory[store::POLICIES + 11 * q];
-    let selected = selected_row(memory, q);
+    let standing = formed::containers_standing(memory);
+    let selected = selected_row(memory, q, standing);
     let words = [0u64; 11];
-    settle(memory, q, words);
-    reset(memory, direction, selected);
+    settle(memory, q, words, standing);
+    reset(memory, q, direction, selected, standing);
 }

@@ -3,28 +3,27 @@ ghost use mathlib.Core.Path.{_≡_};
 ghost use mathlib.Core.Bool.{true};
 ghost use Prim.Native.Nat.{_<_};
 ghost use lib.ListN.{length};
-ghost use Rattle.bitrow.specs.Bit.{bitAt};
 ghost use Rattle.model.specs.Registry.{rebuilt, consistent};
 ghost use Rattle.model.specs.Findings.{containersOf, policiesOf, pairs as setPairs};
 ghost use Rattle.store.specs.Layout.{Whole};
-ghost use Rattle.formed.specs.Registry.{modelIn, bitsIn, registryIn, storedBit, image, wellFormed};
-ghost use Rattle.reach.specs.Lets.{bits, union};
-ghost use Rattle.changes.specs.RuleBits.{ruleBits};
+ghost use Rattle.formed.specs.Registry.{modelIn, bitsIn, registryIn, image, wellFormed};
+ghost use Rattle.changes.specs.StoredRows.{StoredFrom};
 
-// Row r of the stored bits by the rules, from each policy's two sets: a row of the matrix, then by turns what a policy selects and
-// what it allows.
+// Row r of the stored bits by the rules, from what is gathered for all that stand: a row of the matrix, then by turns what a policy
+// selects and what it allows.
 fn row_of_bits(
     r: usize,
-    sides: reach::rules::Sides,
+    gathered: reach::lines::Gathered,
     selected: &[[u64; 4]; 128],
     allowed: &[[u64; 4]; 128],
+    outs: &[[u64; 4]; 256],
+    backs: &[[u64; 4]; 256],
 ) -> [u64; 4]
     requires { ⌜ r < 512 ⌝ }
-    requires { ⌜ bitAt (sides .chosen) ≡ union (bitAt (sides .back)) (bits (now selected)) 128 ⌝ }
-    ensures { λ row. ⌜ bitAt row ≡ storedBit (ruleBits sides (bits (now (selected .entry))) (bits (now (allowed .entry)))) r ⌝ }
+    ensures { λ row. ⌜ StoredFrom gathered (now (selected .entry)) (now (allowed .entry)) (now (outs .entry)) (now (backs .entry)) r row ⌝ }
 {
     if r < 256 {
-        return reach::rules::row_by_rules(r, sides, selected, allowed);
+        return reach::lines::line_from(r, gathered, outs, backs);
     }
     let q = (r - 256) / 2;
     if r % 2 == 0 {
@@ -38,12 +37,24 @@ pub fn rebuild(memory: &mut [u64])
     requires { ⌜ wellFormed (now memory) ≡ true ⌝ }
     ensures { λ u. ⌜ now (memory .exit) ≡ image (rebuilt (registryIn (now (memory .entry)))) ⌝ }
 {
-    let selected = reach::sets::selected_sets(memory);
-    let allowed = reach::sets::allowed_sets(memory);
-    let sides = reach::sets::sides_of(memory, &selected, 2);
+    let mut selected = [[0u64; 4]; 128];
+    let mut allowed = [[0u64; 4]; 128];
+    let mut outs = [[0u64; 4]; 256];
+    let mut backs = [[0u64; 4]; 256];
+    let standing = formed::containers_standing(memory);
+    let gathered = reach::lines::gather(
+        memory,
+        standing,
+        128,
+        standing,
+        &mut selected,
+        &mut allowed,
+        &mut outs,
+        &mut backs,
+    );
     let mut r = 0;
     while r < 512 {
-        let row = row_of_bits(r, sides, &selected, &allowed);
+        let row = row_of_bits(r, gathered, &selected, &allowed, &outs, &backs);
         store::set_row(memory, r, row);
         r += 1;
     }
@@ -54,12 +65,24 @@ pub fn is_consistent(memory: &[u64]) -> bool
     requires { ⌜ wellFormed (now memory) ≡ true ⌝ }
     ensures { λ r. ⌜ r ≡ consistent (registryIn (now (memory .entry))) ⌝ }
 {
-    let selected = reach::sets::selected_sets(memory);
-    let allowed = reach::sets::allowed_sets(memory);
-    let sides = reach::sets::sides_of(memory, &selected, 2);
+    let mut selected = [[0u64; 4]; 128];
+    let mut allowed = [[0u64; 4]; 128];
+    let mut outs = [[0u64; 4]; 256];
+    let mut backs = [[0u64; 4]; 256];
+    let standing = formed::containers_standing(memory);
+    let gathered = reach::lines::gather(
+        memory,
+        standing,
+        128,
+        standing,
+        &mut selected,
+        &mut allowed,
+        &mut outs,
+        &mut backs,
+    );
     let mut x = 0;
     while x < 512 {
-        let row = row_of_bits(x, sides, &selected, &allowed);
+        let row = row_of_bits(x, gathered, &selected, &allowed, &outs, &backs);
         if !bitrow::same(store::row_at(memory, x), row) {
             return false;
         }

@@ -84,7 +84,7 @@ module _ (m : List ℕ) (from : ℕ) where
   unfolding partIn partWord
   part-word i h = words-at m (wordAt m from - 1) (from + 1) i h ∙ ap (λ k. wordAt m k) (omega arith)
 
-  past-word : (i : ℕ) → wordAt m from - 1 ≤ i → partWord (partIn m from) (suc i) ≡ 0
+  pub past-word : (i : ℕ) → wordAt m from - 1 ≤ i → partWord (partIn m from) (suc i) ≡ 0
   unfolding partIn partWord
   past-word i h =
       let ls = labelsIn m (from + 1) (wordAt m from - 1) in

@@ -2,27 +2,79 @@
 use mathlib.Core.Path.{_≡_, sym, ap, _∙_, subst}
 use mathlib.Core.Bool.{true, not, _&&_}
 use mathlib.Core.List.{List}
-use Prim.Native.Nat.{ℕ, _+_, _*_}
+use Prim.Native.Nat.{ℕ, suc, _+_, _*_, _-_, _<_}
+use native.Mathlib.Decide.{ℕ-discrete}
+use native.Mathlib.Omega.{arith}
 use lib.Dec.{eqb, leb}
-use Rattle.block.specs.Entry.{container}
+use Rattle.block.specs.Entry.{container, policy}
 use Rattle.block.specs.Written.{validLabels, validEntry}
 use Rattle.model.specs.Table.{on, at, stands}
 use Rattle.model.specs.Rules.{carries}
+use Rattle.model.specs.Model.{containerSlots, policySlots}
 use Rattle.model.specs.Findings.{sameUser, isSystem}
-use Rattle.store.specs.Layout.{wordAt, containerStart}
-use Rattle.formed.specs.Words.{labelIn, partIn, settingsIn}
+use Rattle.store.specs.Layout.{wordAt, containerStart, policyStart}
+use Rattle.formed.specs.Words.{containerWord, policyWord, labelIn, partIn, policyAt, settingsIn}
 use Rattle.formed.specs.Registry.{modelIn, registryIn, freeOr, wellFormed}
-use Rattle.formed.specs.Entries.{HeadsBound}
-use Rattle.formed.proofs.Slots.{valid-container}
+use Rattle.formed.specs.Entries.{PartOfLabels, ZeroPast, SlotsFormed}
+use Rattle.formed.proofs.Parts.{labels-some, labels-in-range}
+use Rattle.formed.proofs.Slots.{valid-container, PolicyParts, valid-policy}
 use Rattle.formed.proofs.Formed.{formed-memory}
-use Rattle.formed.proofs.Reading.{formed-head, formed-parts, formed-settings}
+use Rattle.formed.proofs.Reading.{container-free, container-taken, policy-slot, policy-free, policy-taken, formed-whole, formed-container, formed-policy, formed-head, formed-parts, formed-settings}
+use Rattle.formed.proofs.EntryTests.{past-word}
 use Rattle.formed.proofs.PartLabels.{label-of}
-use Rattle.formed.proofs.Trials.{container-at}
+use Rattle.formed.proofs.Trials.{select-within, allow-within, container-at}
 use Rattle.formed.proofs.Keys.{userWord, carries-word, same-user}
 
 module _ (m : List ℕ) (ok : wellFormed m ≡ true) where
-  pub formed-heads : HeadsBound m
-  formed-heads = record { container = formed-head m ok; select = λ q h. formed-parts m ok q h .0; allow = λ q h. formed-parts m ok q h .1 }
+  formed-past : (c : ℕ) → c < containerSlots → ZeroPast m (containerStart c)
+  formed-past c h k a b = go (ℕ-discrete (wordAt m (containerStart c)) 0)
+    where
+      go : Dec (wordAt m (containerStart c) ≡ 0) → wordAt m k ≡ 0
+      go (yes e) =
+          let i = k - containerStart c in
+          let at : k ≡ containerStart c + i = omega arith in
+          ap (λ j. wordAt m j) at ∙ formed-container m ok c h i (omega arith) ∙ ap (λ o. containerWord o i) (container-free m c e)
+      go (no n) =
+          let i = k - containerStart c - 1 in
+          let at : k ≡ containerStart c + suc i = omega arith in
+          ap (λ j. wordAt m j) at ∙ formed-container m ok c h (suc i) (omega arith) ∙ ap (λ o. containerWord o (suc i)) (container-taken m c n)
+          ∙ past-word m (containerStart c) i (omega arith)
+
+  pub formed-slots : SlotsFormed m
+  formed-slots = record { container = formed-head m ok; select = λ q h. formed-parts m ok q h .0; allow = λ q h. formed-parts m ok q h .1; past = formed-past }
+
+  -- the parts of a policy, which say nothing where its slot is free
+  module _ (q : ℕ) (h : q < policySlots) where
+    abbrev head : ℕ
+    head = wordAt m (policyStart q)
+
+    valid-parts : (head ≡ 0 → ⊥) → PolicyParts (policyAt m q)
+    unfolding registryIn
+    valid-parts n =
+        valid-policy (modelIn m .settings) (policyAt m q)
+        (subst (λ o. freeOr (λ x. validEntry (modelIn m .settings) (policy x)) o ≡ true) (policy-slot m q h ∙ policy-taken m q n) (formed-memory m ok .acceptable .policy q))
+
+    labelled : (p : ℕ) → (head ≡ 0 → wordAt m p ≡ 0) → ((head ≡ 0 → ⊥) → validLabels 4 (partIn m p) ≡ true) → (k : ℕ) → p < k → k < p + wordAt m p → 0 < wordAt m k
+    unfolding partIn
+    labelled p free valid k a b = go (ℕ-discrete head 0)
+      where
+        go : Dec (head ≡ 0) → 0 < wordAt m k
+        go (yes e) = absurd (omega (arith, free e))
+        go (no n) = labels-some m (wordAt m p - 1) (p + 1) (labels-in-range 4 _ (valid n)) k (omega arith) (omega arith)
+
+    pub formed-select : PartOfLabels m (policyStart q + 1)
+    unfolding policyAt
+    formed-select = record {
+      within = select-within m (formed-whole m ok) formed-slots q h;
+      label = labelled (policyStart q + 1) (λ e. formed-policy m ok q h 1 (omega arith) ∙ ap (λ o. policyWord o 1) (policy-free m q e)) (λ n. valid-parts n .select);
+    }
+
+    pub formed-allow : PartOfLabels m (policyStart q + 6)
+    unfolding policyAt
+    formed-allow = record {
+      within = allow-within m (formed-whole m ok) formed-slots q h;
+      label = labelled (policyStart q + 6) (λ e. formed-policy m ok q h 6 (omega arith) ∙ ap (λ o. policyWord o 6) (policy-free m q e)) (λ n. valid-parts n .allow);
+    }
 
   module _ (c : ℕ) (s : stands (modelIn m .containers) c ≡ true) where
     pub formed-labels : validLabels 8 (partIn m (containerStart c)) ≡ true

@@ -1,15 +1,18 @@
 -- A label as one word, and the labels of a part read one after another. Assumes nothing.
-use mathlib.Core.Path.{_≡_, sym, ap, ap₂, _∙_}
-use mathlib.Core.Bool.{true, false, _&&_, _||_, cond}
+use mathlib.Core.Path.{_≡_, refl, sym, ap, ap₂, _∙_}
+use mathlib.Core.Bool.{Bool, true, false, _&&_, _||_, cond, or-assoc, or-false}
 use mathlib.Core.List.{List, [], _∷_}
-use Prim.Native.Nat.{ℕ, suc, _+_, _*_, _-_, _/_, _%_, _<_, _≤_}
+use Prim.Native.Nat.{ℕ, zero, suc, _+_, _*_, _-_, _/_, _%_, _<_, _≤_}
+use native.Mathlib.Decide.{decLt}
 use native.Mathlib.Omega.{arith}
 use lib.Dec.{eqb}
 use borrow.Author.Tests.{eqb-true, eq-eqb, ne-eqb}
 use Rattle.block.specs.Entry.{Label, Container}
+use Rattle.bitrow.specs.Set.{some}
 use Rattle.bitrow.proofs.Tests.{same-test}
 use Rattle.model.specs.Rules.{sameLabel, carries, matches}
 use Rattle.store.specs.Layout.{wordAt}
+use Rattle.store.proofs.Cases.{by-eqb}
 use Rattle.formed.specs.Words.{labelIn, labelsIn, partIn}
 use Rattle.formed.specs.Entries.{wordUnder}
 use Rattle.formed.proofs.Tests.{both}
@@ -71,6 +74,36 @@ module _ (m : List ℕ) where
     pub carries-done : end ≤ i → carries (labelsFrom i end) (labelIn w) ≡ false
     unfolding carries
     carries-done h = ap (λ ls. carries ls (labelIn w)) (labels-done i end h)
+
+  -- the n words after a part's header, of which those past its labels are zero: w is a label of the part if it is one of them
+  module _ (p w n : ℕ) (pos : 0 < w) (few : wordAt m p ≤ n + 1) (past : (k : ℕ) → p + wordAt m p ≤ k → k < p + (n + 1) → wordAt m k ≡ 0) where
+    abbrev isWord : ℕ → Bool
+    isWord j = eqb (wordAt m (p + suc j)) w
+
+    abbrev from : ℕ → Bool
+    from i = carries (labelsFrom i (p + wordAt m p)) (labelIn w)
+
+    from-next : (i : ℕ) → i < p + (n + 1) → from i ≡ (eqb (wordAt m i) w || from (i + 1))
+    from-next i h = go (decLt i (p + wordAt m p))
+      where
+        go : Dec (i < p + wordAt m p) → from i ≡ (eqb (wordAt m i) w || from (i + 1))
+        go (yes l) = by-eqb (λ t. from i ≡ (t || from (i + 1))) (wordAt m i) w (carries-hit w i _ l) (carries-skip w i _ l)
+        go (no l) =
+            carries-done w i _ (omega arith)
+            ∙ sym (ap (λ t. t || from (i + 1)) (ne-eqb (wordAt m i) w (λ e. omega (arith, past i (omega arith) h))) ∙ carries-done w (i + 1) _ (omega arith))
+
+    -- one of the first j of them, or a label after those
+    from-start : (j : ℕ) → j ≤ n → from (p + 1) ≡ (some isWord j || from (p + suc j))
+    unfolding some
+    from-start zero h = refl
+    from-start (suc j) h =
+        let e : p + suc j + 1 ≡ p + suc (suc j) = omega arith in
+        from-start j (omega arith) ∙ ap (λ t. some isWord j || t) (from-next (p + suc j) (omega arith) ∙ ap (λ i. isWord j || from i) e)
+        ∙ sym (or-assoc (some isWord j) (isWord j) (from (p + suc (suc j))))
+
+    pub carries-words : carries (partIn m p) (labelIn w) ≡ some (λ j. eqb (wordAt m (p + suc j)) w) n
+    carries-words =
+        carries-part p w ∙ from-start n (omega arith) ∙ ap (λ t. some isWord n || t) (carries-done w (p + suc n) _ (omega arith)) ∙ or-false (some isWord n)
 
   -- whether c carries all of them
 

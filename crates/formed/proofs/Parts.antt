@@ -4,6 +4,7 @@ use mathlib.Core.Bool.{true, _&&_}
 use mathlib.Core.List.{List, [], _∷_, map}
 use Prim.Native.Nat.{ℕ, zero, suc, _+_, _*_, _-_, _/_, _%_, _^_, _<_, _≤_}
 use native.Mathlib.Nat.{add-zero}
+use native.Mathlib.Decide.{ℕ-discrete}
 use native.Mathlib.Omega.{arith}
 use lib.Dec.{leb}
 use lib.ListN.{length, getD}
@@ -59,6 +60,19 @@ labels-small : (ls : List Label) → allInRange ls ≡ true → (k : ℕ) → ge
 labels-small [] ok k = omega arith
 labels-small (l ∷ ls) ok zero = label-small l (both (inRange l) (allInRange ls) ok .0)
 labels-small (l ∷ ls) ok (suc k) = labels-small ls (both (inRange l) (allInRange ls) ok .1) k
+
+-- a label in range is not the word zero
+pub labels-some : (m : List ℕ) (n s : ℕ) → allInRange (labelsIn m s n) ≡ true → (k : ℕ) → s ≤ k → k < s + n → 0 < wordAt m k
+unfolding labelIn
+labels-some m zero s ok k a b = absurd (omega arith)
+labels-some m (suc n) s ok k a b =
+    let h = both (inRange (labelIn (wordAt m s))) (allInRange (labelsIn m (s + 1) n)) ok in
+    let l = label-bounds (labelIn (wordAt m s)) (h .0) in
+    go (ℕ-discrete k s) (omega arith) (labels-some m n (s + 1) (h .1) k)
+  where
+    go : Dec (k ≡ s) → 0 < wordAt m s → (s + 1 ≤ k → k < s + 1 + n → 0 < wordAt m k) → 0 < wordAt m k
+    go (yes e) first rest = rw e first
+    go (no o) first rest = rest (omega arith) (omega arith)
 
 pub length-labels : (m : List ℕ) (s n : ℕ) → length (labelsIn m s n) ≡ n
 length-labels m s zero = refl

@@ -3,17 +3,19 @@ use mathlib.Core.Path.{_≡_, refl, sym, ap, ap₂, _∙_, fun-ext, subst}
 use mathlib.Core.Bool.{Bool, true, false, _&&_, cond, and-true}
 use mathlib.Core.List.{List, [], _∷_}
 use mathlib.Core.Option.{Option, none, some}
-use Prim.Native.Nat.{ℕ, _+_, _*_, _-_, _<_, _≤_}
+use Prim.Native.Nat.{ℕ, _+_, _*_, _-_, _%_, _^_, _<_, _≤_}
+use native.Mathlib.Nat.{mod-eq-of-lt}
 use native.Mathlib.Decide.{decLt}
 use native.Mathlib.Omega.{arith}
 use lib.Dec.{eqb}
 use lib.ListN.{getD}
 use Rattle.block.specs.Entry.{Container}
 use Rattle.bitrow.specs.Bit.{bit, bitAt}
+use Rattle.bitrow.proofs.Words.{bit-above}
 use Rattle.bitrow.proofs.Rows.{word-bit}
 use Rattle.bitrow.proofs.Sets.{at as point}
-use Rattle.bitrow.specs.Set.{under, insert, meet, Bounded, Lowest}
-use Rattle.bitrow.proofs.Sets.{meet-at, under-in, under-out, meet-next, meet-under, bounded-meet-left}
+use Rattle.bitrow.specs.Set.{nothing, under, insert, remove, meet, join, Bounded, Lowest}
+use Rattle.bitrow.proofs.Sets.{meet-at, under-in, under-out, meet-next, meet-under, bounded-meet-left, nothing-meet, nothing-join, join-nothing, join-comm, insert-join, insert-remove, remove-meet, remove-absent}
 use Rattle.model.specs.Table.{on, at, stands}
 use Rattle.model.specs.Rules.{matches, selects, allows}
 use Rattle.model.specs.Model.{containerSlots, policySlots, selectedBit, allowedBit}
@@ -23,13 +25,13 @@ use Rattle.store.proofs.Cases.{by-eqb}
 use Rattle.store.proofs.Image.{getD-tab, tab-beyond}
 use Rattle.formed.specs.Words.{labelsIn, partIn, containerIn, policyAt, policyIn}
 use Rattle.formed.specs.Registry.{modelIn}
-use Rattle.formed.specs.Entries.{PartWithin, HeadsBound, SlotsOfParts, matching, matchingFrom, trialSet}
+use Rattle.formed.specs.Entries.{PartWithin, SlotAt, SlotsFormed, SlotsFrom, matching, matchingFrom, trialSet}
 use Rattle.formed.proofs.Tests.{clash}
-use Rattle.formed.proofs.Standing.{meet-in, words-row}
+use Rattle.formed.proofs.Standing.{meet-in, word-zero, words-row}
 
 -- ---- parts that lie within the memory
 
-module _ (m : List ℕ) (w : Whole m) (b : HeadsBound m) where
+module _ (m : List ℕ) (w : Whole m) (b : SlotsFormed m) where
   pub container-within : (c : ℕ) → c < 256 → PartWithin m (containerStart c)
   container-within c h = record { header = omega (arith, w); labels = omega (arith, w, b .container c h) }
 
@@ -39,10 +41,13 @@ module _ (m : List ℕ) (w : Whole m) (b : HeadsBound m) where
   pub allow-within : (q : ℕ) → q < 128 → PartWithin m (policyStart q + 6)
   allow-within q h = record { header = omega (arith, w); labels = omega (arith, w, b .allow q h) }
 
+  slot-at : (c : ℕ) → c < 256 → SlotAt m (containerStart c)
+  slot-at c h = record { within = omega (arith, w); head = b .container c h; past = b .past c h }
+
   -- 64 container slots, of which slot j is the first
-  pub slots-within : (j : ℕ) → j + 64 ≤ 256 → SlotsOfParts m (containerStart j)
-  slots-within j h = record {
-    slot = λ i l. let e : containerStart (j + i) ≡ containerStart j + 9 * i = omega arith in subst (PartWithin m) e (container-within (j + i) (omega arith));
+  pub slots-from : (j : ℕ) → j + 64 ≤ 256 → SlotsFrom m (containerStart j)
+  slots-from j h = record {
+    slot = λ i l. let e : containerStart (j + i) ≡ containerStart j + 9 * i = omega arith in subst (SlotAt m) e (slot-at (j + i) (omega arith));
   }
 
 -- ---- four words, each the trial over 64 containers
@@ -98,6 +103,46 @@ pub gather-done : (s f : ℕ → Bool) (i n : ℕ) → Bounded n s → i ≤ n �
 gather-done s f i n b h out =
     meet-to (meet s f) i n h (λ k a c. meet-at s f k ∙ ap (λ t. t && f k) (out k a c))
     ∙ meet-under (bounded-meet-left b f)
+
+-- ---- those of a word that f passes, its lowest bit taken away each time
+
+-- what is chosen, and what f passes of the rest, are together what f passes of the word
+pub record Tried (word : ℕ) (f : ℕ → Bool) (chosen rest : ℕ) : Type 0 where
+  pub small : rest < 2 ^ 64
+  pub all : join (bit chosen) (meet (bit rest) f) ≡ meet (bit word) f
+
+module _ (word : ℕ) (f : ℕ → Bool) (h : word < 2 ^ 64) where
+  pub tried-none : Tried word f 0 word
+  tried-none = record { small = h; all = ap (λ s. join s (meet (bit word) f)) word-zero ∙ nothing-join (meet (bit word) f) }
+
+  pub tried-all : {chosen rest : ℕ} → Tried word f chosen rest → rest ≤ 0 → bit chosen ≡ meet (meet (bit word) f) (under 64)
+  tried-all {chosen} {rest} g l =
+      let e : rest ≡ 0 = omega arith in
+      let n : meet (bit rest) f ≡ nothing = ap (λ w. meet (bit w) f) e ∙ ap (λ s. meet s f) word-zero ∙ nothing-meet f in
+      sym (join-nothing (bit chosen)) ∙ ap (join (bit chosen)) (sym n) ∙ g .all
+      ∙ sym (meet-under (bounded-meet-left (record { clear = λ j. bit-above 64 word j h }) f))
+
+module _ {word : ℕ} {f : ℕ → Bool} {chosen rest next k : ℕ} (g : Tried word f chosen rest) (l : Lowest (bit rest) 0 64 k)
+    (e : (bit next ≡ remove k (bit rest)) × (next < rest)) where
+  abbrev passed : ℕ → Bool
+  passed = meet (bit rest) f
+
+  passed-next : meet (bit next) f ≡ remove k passed
+  passed-next = ap (λ s. meet s f) (e .0) ∙ sym (remove-meet k (bit rest) f)
+
+  pub tried-take : {more : ℕ} {t : Bool} → bit more ≡ insert (k % 64) (bit chosen) → t ≡ f k → t ≡ true → Tried word f more next
+  tried-take i p t = record {
+    small = omega (arith, g .small, e .1);
+    all = ap₂ join (i ∙ ap (λ j. insert j (bit chosen)) (mod-eq-of-lt (l .below))) passed-next
+        ∙ sym (insert-join k (bit chosen) (remove k passed)) ∙ ap (insert k) (join-comm (bit chosen) (remove k passed)) ∙ insert-join k (remove k passed) (bit chosen)
+        ∙ ap (λ s. join s (bit chosen)) (insert-remove k passed (meet-at (bit rest) f k ∙ ap₂ _&&_ (l .there) (sym p ∙ t))) ∙ join-comm passed (bit chosen) ∙ g .all;
+  }
+
+  pub tried-skip : {t : Bool} → t ≡ f k → t ≡ false → Tried word f chosen next
+  tried-skip p t = record {
+    small = omega (arith, g .small, e .1);
+    all = ap (join (bit chosen)) (passed-next ∙ remove-absent k passed (meet-at (bit rest) f k ∙ ap₂ _&&_ (l .there) (sym p ∙ t))) ∙ g .all;
+  }
 
 -- ---- what the memory says at a slot
 

@@ -1,4 +1,5 @@
 -- What the readers of entries give. Assumes nothing.
+use mathlib.Core.Path.{_≡_}
 use mathlib.Core.Bool.{Bool, cond}
 use mathlib.Core.List.{List, [], _∷_}
 use mathlib.Core.Option.{Option, none, some}
@@ -9,7 +10,7 @@ use Rattle.block.specs.Entry.{Label}
 use Rattle.bitrow.specs.Set.{meet}
 use Rattle.model.specs.Model.{containerSlots, policySlots}
 use Rattle.model.specs.Rules.{matches}
-use Rattle.store.specs.Layout.{wordAt, containersStart, containerStart, policyStart}
+use Rattle.store.specs.Layout.{wordAt, containersStart, containerStart, containerWords, policyStart}
 use Rattle.formed.specs.declared.entries.FreeContainer.{FreeContainer}
 use Rattle.formed.specs.declared.entries.FreeContainer.the-variants as container
 use Rattle.formed.specs.declared.entries.FreePolicy.{FreePolicy}
@@ -21,15 +22,31 @@ pub record PartWithin (m : List ℕ) (at : ℕ) : Type 0 where
   pub header : at < length m
   pub labels : at + wordAt m at ≤ length m
 
--- no part of a slot says more labels than its limit: so it is in a memory that is well formed
-pub record HeadsBound (m : List ℕ) : Type 0 where
+-- and none of its labels is the word zero
+pub record PartOfLabels (m : List ℕ) (at : ℕ) : Type 0 where
+  pub within : PartWithin m at
+  pub label : (k : ℕ) → at < k → k < at + wordAt m at → 0 < wordAt m k
+
+-- the words past the labels of the container whose slot is at `at` are zero
+abbrev pub ZeroPast : List ℕ → ℕ → Type 0
+ZeroPast m at = (k : ℕ) → at + wordAt m at ≤ k → k < at + containerWords → wordAt m k ≡ 0
+
+-- a container's slot, which lies within the memory
+pub record SlotAt (m : List ℕ) (at : ℕ) : Type 0 where
+  pub within : at + containerWords ≤ length m
+  pub head : wordAt m at ≤ containerWords
+  pub past : ZeroPast m at
+
+-- no part of a slot says more labels than its limit, and a container's slot is zero past them: so it is in a memory that is well formed
+pub record SlotsFormed (m : List ℕ) : Type 0 where
   pub container : (c : ℕ) → c < containerSlots → wordAt m (containerStart c) ≤ 9
   pub select : (q : ℕ) → q < policySlots → wordAt m (policyStart q + 1) ≤ 5
   pub allow : (q : ℕ) → q < policySlots → wordAt m (policyStart q + 6) ≤ 5
+  pub past : (c : ℕ) → c < containerSlots → ZeroPast m (containerStart c)
 
--- 64 slots of nine words each, from `at` on, whose parts lie within the memory
-pub record SlotsOfParts (m : List ℕ) (at : ℕ) : Type 0 where
-  pub slot : (i : ℕ) → i < 64 → PartWithin m (at + 9 * i)
+-- 64 container slots, one after another from `at` on
+pub record SlotsFrom (m : List ℕ) (at : ℕ) : Type 0 where
+  pub slot : (i : ℕ) → i < 64 → SlotAt m (at + 9 * i)
 
 -- those of slots nine words apart, from `at` on, that carry every label of the part whose header is at `part`
 unfoldable pub matchingFrom : List ℕ → ℕ → ℕ → ℕ → Bool

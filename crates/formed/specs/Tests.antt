@@ -75,9 +75,9 @@ policiesOk m = between (policyOk m) 0 policySlots
 
 -- ---- rows
 
--- the slots, `step` words apart from word `at` on, whose first word is not zero
-unfoldable pub heads : List ℕ → ℕ → ℕ → ℕ → Bool
-heads m at step j = not (eqb (wordAt m (at + step * j)) 0)
+-- the slots, `step` words apart from word `at` on, whose first word is w
+unfoldable pub firsts : List ℕ → ℕ → ℕ → ℕ → ℕ → Bool
+firsts m at step w j = eqb (wordAt m (at + step * j)) w
 
 -- s, and nothing where the word is zero: what may be set in a row whose owner's first word is w
 unfoldable pub ownedBy : ℕ → (ℕ → Bool) → ℕ → Bool

@@ -1,6 +1,6 @@
 // Entries read from memory: labels of parts, the trial of a part, the search for a free slot.
 ghost use mathlib.Core.Path.{_≡_};
-ghost use Prim.Native.Nat.{_-_};
+ghost use Prim.Native.Nat.{_-_, _<_};
 ghost use Rattle.bitrow.specs.Bit.{bit, bitAt};
 ghost use Rattle.bitrow.specs.Set.{meet, under, firstOf};
 ghost use Rattle.model.specs.Rules.{carries as carriesLabel, matches as matchesPart};
@@ -8,7 +8,7 @@ ghost use Rattle.model.specs.Table.{lowestFree};
 ghost use Rattle.store.specs.Layout.{Whole};
 ghost use Rattle.formed.specs.Words.{labelIn, partIn};
 ghost use Rattle.formed.specs.Registry.{modelIn};
-ghost use Rattle.formed.specs.Entries.{PartWithin, HeadsBound, SlotsOfParts, matchingFrom, trialSet, wordUnder, freeIn, SlotsWithin, freeContainer, freePolicy};
+ghost use Rattle.formed.specs.Entries.{PartWithin, PartOfLabels, SlotAt, SlotsFormed, SlotsFrom, matchingFrom, trialSet, wordUnder, freeIn, SlotsWithin, freeContainer, freePolicy};
 use bitrow::Found;
 use model::ContainerSlot;
 use model::PolicySlot;
@@ -41,15 +41,31 @@ pub fn carries(memory: &[u64], at: usize, word: u64) -> bool
     false
 }
 
-// Whether the part whose header is at `at` has every label of the part whose header is at `part`.
+// Whether the container whose slot is at `at` has the label that is this word. Its count is not read: the words past its labels are
+// zero, and no label is.
+fn slot_carries(memory: &[u64], at: usize, word: u64) -> bool
+    requires { ⌜ SlotAt (now memory) at × (0 < word) ⌝ }
+    ensures { λ r. ⌜ r ≡ carriesLabel (partIn (now (memory .entry)) at) (labelIn word) ⌝ }
+{
+    (memory[at + 1] == word)
+        | (memory[at + 2] == word)
+        | (memory[at + 3] == word)
+        | (memory[at + 4] == word)
+        | (memory[at + 5] == word)
+        | (memory[at + 6] == word)
+        | (memory[at + 7] == word)
+        | (memory[at + 8] == word)
+}
+
+// Whether the container whose slot is at `at` has every label of the part whose header is at `part`.
 pub fn matches(memory: &[u64], part: usize, at: usize) -> bool
-    requires { ⌜ PartWithin (now memory) part × PartWithin (now memory) at ⌝ }
+    requires { ⌜ PartOfLabels (now memory) part × SlotAt (now memory) at ⌝ }
     ensures { λ r. ⌜ r ≡ matchesPart (partIn (now (memory .entry)) part) (partIn (now (memory .entry)) at) ⌝ }
 {
     let end = part + memory[part] as usize;
     let mut i = part + 1;
     while i < end {
-        if !carries(memory, at, memory[i]) {
+        if !slot_carries(memory, at, memory[i]) {
             return false;
         }
         i += 1;
@@ -59,21 +75,16 @@ pub fn matches(memory: &[u64], part: usize, at: usize) -> bool
 
 // The trial of a part over 64 containers, of which `word` has the candidates and whose first words stand nine apart from `at` on.
 fn trial_word(memory: &[u64], part: usize, word: u64, at: usize) -> u64
-    requires { ⌜ PartWithin (now memory) part × SlotsOfParts (now memory) at ⌝ }
+    requires { ⌜ PartOfLabels (now memory) part × SlotsFrom (now memory) at ⌝ }
     ensures { λ r. ⌜ bit r ≡ meet (meet (bit word) (matchingFrom (now (memory .entry)) part at)) (under 64) ⌝ }
 {
     let mut chosen = 0u64;
-    if word == 0 {
-        return chosen;
-    }
-    let mut i = 0;
-    while i < 64 {
-        let k = i;
-        i += 1;
-        if bitrow::bit_of(word, k) {
-            if matches(memory, part, at + 9 * k) {
-                chosen = chosen | (1u64 << k);
-            }
+    let mut rest = word;
+    while rest > 0 {
+        let k = u64::trailing_zeros(rest) as usize;
+        rest = bitrow::without_lowest(rest);
+        if matches(memory, part, at + 9 * k) {
+            chosen = bitrow::word_with(chosen, k);
         }
     }
     chosen
@@ -81,7 +92,7 @@ fn trial_word(memory: &[u64], part: usize, word: u64, at: usize) -> u64
 
 // The trial of a part: those of the candidates that carry every label of it.
 pub fn trial(memory: &[u64], part: usize, candidates: [u64; 4]) -> [u64; 4]
-    requires { ⌜ Whole (now memory) × PartWithin (now memory) part × HeadsBound (now memory) ⌝ }
+    requires { ⌜ Whole (now memory) × PartOfLabels (now memory) part × SlotsFormed (now memory) ⌝ }
     ensures { λ r. ⌜ bitAt r ≡ trialSet (now (memory .entry)) part (bitAt candidates) ⌝ }
 {
     [

@@ -12,7 +12,7 @@ ghost use Rattle.model.specs.Table.{stands};
 ghost use Rattle.store.specs.Layout.{Whole};
 ghost use Rattle.formed.specs.Words.{settingsIn};
 ghost use Rattle.formed.specs.Registry.{modelIn, wellFormed};
-ghost use Rattle.formed.specs.Tests.{labelOk, labelsBetween, zeros as allZero, partOk, containerOk, policyOk, containersOk, policiesOk, heads, rowOk, matrixOk, setsOk};
+ghost use Rattle.formed.specs.Tests.{labelOk, labelsBetween, zeros as allZero, partOk, containerOk, policyOk, containersOk, policiesOk, firsts, rowOk, matrixOk, setsOk};
 
 fn in_range(low: u64, high: u64, x: u64) -> bool
     ensures { λ r. ⌜ r ≡ within low high x ⌝ }
@@ -149,18 +149,18 @@ fn policies_ok(memory: &[u64]) -> bool
     true
 }
 
-// A bit for each of 64 slots, `step` words apart from word `at` on: set where the slot's first word is not zero.
-fn standing_word(memory: &[u64], at: usize, step: usize) -> u64
+// A bit for each of 64 slots, `step` words apart from word `at` on: set where the slot's first word is this one.
+pub fn slots_with(memory: &[u64], at: usize, step: usize, first: u64) -> u64
     requires { ⌜ (at + 64 * step ≤ length (now memory)) × (0 < step) ⌝ }
-    ensures { λ r. ⌜ bit r ≡ meet (heads (now (memory .entry)) at step) (under 64) ⌝ }
+    ensures { λ r. ⌜ bit r ≡ meet (firsts (now (memory .entry)) at step first) (under 64) ⌝ }
 {
     let mut word = 0u64;
     let mut i = 0;
     while i < 64 {
         let k = i;
         i += 1;
-        if memory[at + step * k] != 0 {
-            word = word | (1u64 << k);
+        if memory[at + step * k] == first {
+            word = bitrow::word_with(word, k);
         }
     }
     word
@@ -172,10 +172,10 @@ pub fn containers_standing(memory: &[u64]) -> [u64; 4]
     ensures { λ r. ⌜ bitAt r ≡ stands (modelIn (now (memory .entry)) .containers) ⌝ }
 {
     [
-        standing_word(memory, store::CONTAINERS, 9),
-        standing_word(memory, store::CONTAINERS + 576, 9),
-        standing_word(memory, store::CONTAINERS + 1152, 9),
-        standing_word(memory, store::CONTAINERS + 1728, 9),
+        !slots_with(memory, store::CONTAINERS, 9, 0),
+        !slots_with(memory, store::CONTAINERS + 576, 9, 0),
+        !slots_with(memory, store::CONTAINERS + 1152, 9, 0),
+        !slots_with(memory, store::CONTAINERS + 1728, 9, 0),
     ]
 }
 
@@ -185,8 +185,8 @@ pub fn policies_standing(memory: &[u64]) -> [u64; 4]
     ensures { λ r. ⌜ bitAt r ≡ stands (modelIn (now (memory .entry)) .policies) ⌝ }
 {
     [
-        standing_word(memory, store::POLICIES, 11),
-        standing_word(memory, store::POLICIES + 704, 11),
+        !slots_with(memory, store::POLICIES, 11, 0),
+        !slots_with(memory, store::POLICIES + 704, 11, 0),
         0,
         0,
     ]

@@ -2,3 +2,5 @@
 pub mod Unions
 pub mod Model
 pub mod Candidates
+pub mod LineLaws
+pub mod LabelLaws

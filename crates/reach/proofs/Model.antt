@@ -111,10 +111,10 @@ line-none m d a e = fun-ext (λ b. go d b (at (m .containers) a) (at (m .contain
     go ingress b none (just y) f g h = rw (f, g)
     go d b (just x) p f g h = absurd (true≢false h)
 
--- what `row_by_rules` gives of a model's sets, its policies in their slots
-module _ (m : Model) {sel alw : List (List ℕ)} (size : length (m .policies) ≡ policySlots) (sets : SetsOf m sel alw) {s : Sides} where
-  pub line-law : (d : Direction) → SidesOf m d sel s → (a : ℕ) → line policySlots (bitAt (s .standing)) (bitAt (s .out)) (bitAt (s .back)) (bits sel) (bits alw) a ≡ lineBit m d a
+-- a line of a model's sets, its policies in their slots: what `row_by_rules` gives, and a row that is read from lines
+module _ (m : Model) {sel alw : List (List ℕ)} (size : length (m .policies) ≡ policySlots) (sets : SetsOf m sel alw) where
+  pub line-law : {s : Sides} (d : Direction) → SidesOf m d sel s → (a : ℕ) → line policySlots (bitAt (s .standing)) (bitAt (s .out)) (bitAt (s .back)) (bits sel) (bits alw) a ≡ lineBit m d a
   line-law d f a = line-sets m size (sets .selected) (sets .allowed) d (f .standing) (f .out) (f .back) a
 
-  pub row-law : SidesOf m egress sel s → (a : ℕ) → line policySlots (bitAt (s .standing)) (bitAt (s .out)) (bitAt (s .back)) (bits sel) (bits alw) a ≡ matrixBit m a
-  row-law f a = line-law egress f a ∙ line-row m a
+  pub row-law : {s : ℕ → Bool} → s ≡ stands (m .containers) → (a : ℕ) → line policySlots s (directionSet m egress) (directionSet m ingress) (bits sel) (bits alw) a ≡ matrixBit m a
+  row-law f a = line-sets m size (sets .selected) (sets .allowed) egress f refl refl a ∙ line-row m a

@@ -5,9 +5,11 @@ ghost use Prim.Native.Nat.{_+_, _≤_, _<_};
 ghost use Rattle.bitrow.specs.Bit.{bitAt};
 ghost use Rattle.block.specs.Reader.{directionOf};
 ghost use Rattle.model.specs.Table.{stands};
-ghost use Rattle.model.specs.Model.{selectedBit, allowedBit};
+ghost use Rattle.model.specs.Model.{policySlots};
 ghost use Rattle.formed.specs.Registry.{modelIn, wellFormed};
-ghost use Rattle.reach.specs.Sets.{RowsAre, directionSet, partSet, PartsWithin, SidesOf};
+ghost use Rattle.reach.specs.Labels.{LabelRows};
+ghost use Rattle.reach.specs.Sets.{RowsAre, EmptyBut, KnownSets, SetsOf, directionSet, partSet, PartsWithin, SidesOf, Exchanged};
+use crate::labels;
 use crate::rules;
 use crate::rules::Sides;
 
@@ -23,36 +25,87 @@ pub fn part_row(memory: &[u64], q: usize, offset: usize, candidates: [u64; 4]) -
     formed::entries::trial(memory, at + offset, candidates)
 }
 
-// Such a row for each policy, the standing containers its candidates.
-fn sets_of(memory: &[u64], offset: usize) -> [[u64; 4]; 128]
-    requires { ⌜ (wellFormed (now memory) ≡ true) × PartsWithin (now memory) offset ⌝ }
-    ensures { λ r. ⌜ RowsAre 128 (partSet (now (memory .entry)) (stands (modelIn (now (memory .entry)) .containers)) offset) r ⌝ }
+// The same by the label rows.
+fn part_by_labels(
+    memory: &[u64],
+    table: &[u64; 1024],
+    rows: &[[u64; 4]; 1024],
+    q: usize,
+    offset: usize,
+    candidates: [u64; 4],
+) -> [u64; 4]
+    requires { ⌜ (wellFormed (now memory) ≡ true) × (q < 128) × PartsWithin (now memory) offset × LabelRows (now memory) (now table) 256 (now rows) ⌝ }
+    ensures { λ r. ⌜ bitAt r ≡ partSet (now (memory .entry)) (bitAt candidates) offset q ⌝ }
 {
-    let standing = formed::containers_standing(memory);
-    let mut sets = [[0u64; 4]; 128];
-    let mut q = 0;
-    while q < 128 {
-        let row = part_row(memory, q, offset, standing);
-        sets[q] = row;
-        q += 1;
+    let at = store::POLICIES + 11 * q;
+    if memory[at] == 0 {
+        return bitrow::none();
     }
-    sets
+    labels::matching(memory, table, rows, at + offset, candidates)
 }
 
-// What each policy selects.
-pub fn selected_sets(memory: &[u64]) -> [[u64; 4]; 128]
-    requires { ⌜ wellFormed (now memory) ≡ true ⌝ }
-    ensures { λ r. ⌜ RowsAre 128 (selectedBit (modelIn (now (memory .entry)))) r ⌝ }
+// Such a row for each policy but `known`, whose row is there already.
+fn fill(
+    sets: &mut [[u64; 4]; 128],
+    known: usize,
+    memory: &[u64],
+    table: &[u64; 1024],
+    rows: &[[u64; 4]; 1024],
+    offset: usize,
+    candidates: [u64; 4],
+)
+    requires { ⌜ (wellFormed (now memory) ≡ true) × PartsWithin (now memory) offset × LabelRows (now memory) (now table) 256 (now rows) ⌝ }
+    requires { ⌜ EmptyBut policySlots known (partSet (now memory) (bitAt candidates) offset) (now sets) ⌝ }
+    ensures { λ u. ⌜ RowsAre 128 (partSet (now (memory .entry)) (bitAt candidates) offset) (now (sets .exit)) ⌝ }
 {
-    sets_of(memory, 1)
+    let mut next = 0;
+    while next < 128 {
+        let q = next;
+        next += 1;
+        if q != known {
+            let row = part_by_labels(memory, table, rows, q, offset, candidates);
+            sets[q] = row;
+        }
+    }
 }
 
-// What each policy allows.
-pub fn allowed_sets(memory: &[u64]) -> [[u64; 4]; 128]
-    requires { ⌜ wellFormed (now memory) ≡ true ⌝ }
-    ensures { λ r. ⌜ RowsAre 128 (allowedBit (modelIn (now (memory .entry)))) r ⌝ }
+// What each policy selects and what it allows, by the label rows; the sets of the policy `known` are there already.
+fn fill_by_labels(
+    memory: &[u64],
+    standing: [u64; 4],
+    known: usize,
+    selected: &mut [[u64; 4]; 128],
+    allowed: &mut [[u64; 4]; 128],
+)
+    requires { ⌜ (wellFormed (now memory) ≡ true) × (bitAt standing ≡ stands (modelIn (now memory) .containers)) ⌝ }
+    requires { ⌜ KnownSets (modelIn (now memory)) known (now selected) (now allowed) ⌝ }
+    ensures { λ u. ⌜ SetsOf (modelIn (now (memory .entry))) (now (selected .exit)) (now (allowed .exit)) ⌝ }
 {
-    sets_of(memory, 6)
+    let mut table = [0u64; 1024];
+    let mut rows = [[0u64; 4]; 1024];
+    labels::enter_all(&mut table, memory);
+    labels::mark_all(&mut rows, &table, memory);
+    fill(selected, known, memory, &table, &rows, 1, standing);
+    fill(allowed, known, memory, &table, &rows, 6, standing);
+}
+
+// What each policy selects and what it allows, into rows that are empty but for those of the policy `known` (128 where there is
+// none), whose sets are there already. Where no policy stands all rows stay as they are.
+pub fn fill_sets(
+    memory: &[u64],
+    standing: [u64; 4],
+    known: usize,
+    selected: &mut [[u64; 4]; 128],
+    allowed: &mut [[u64; 4]; 128],
+)
+    requires { ⌜ (wellFormed (now memory) ≡ true) × (bitAt standing ≡ stands (modelIn (now memory) .containers)) ⌝ }
+    requires { ⌜ KnownSets (modelIn (now memory)) known (now selected) (now allowed) ⌝ }
+    ensures { λ u. ⌜ SetsOf (modelIn (now (memory .entry))) (now (selected .exit)) (now (allowed .exit)) ⌝ }
+{
+    if bitrow::is_empty(formed::policies_standing(memory)) {
+        return;
+    }
+    fill_by_labels(memory, standing, known, selected, allowed);
 }
 
 // The standing policies of a direction, 1 ingress, 2 egress.
@@ -60,26 +113,26 @@ fn of_direction(memory: &[u64], direction: u64) -> [u64; 4]
     requires { ⌜ (wellFormed (now memory) ≡ true) × (1 ≤ direction) × (direction ≤ 2) ⌝ }
     ensures { λ r. ⌜ bitAt r ≡ directionSet (modelIn (now (memory .entry))) (directionOf direction) ⌝ }
 {
-    let mut those = bitrow::none();
-    let mut p = 0;
-    while p < 128 {
-        let q = p;
-        p += 1;
-        if memory[store::POLICIES + 11 * q] == direction {
-            let next = bitrow::with(those, q);
-            those = next;
-        }
-    }
-    those
+    [
+        formed::slots_with(memory, store::POLICIES, 11, direction),
+        formed::slots_with(memory, store::POLICIES + 704, 11, direction),
+        0,
+        0,
+    ]
 }
 
 // What a row of the matrix is worked out from for direction 2, egress, and a column for direction 1, ingress, where `selected` has
 // what each policy selects.
-pub fn sides_of(memory: &[u64], selected: &[[u64; 4]; 128], direction: u64) -> Sides
-    requires { ⌜ (wellFormed (now memory) ≡ true) × (1 ≤ direction) × (direction ≤ 2) ⌝ }
+pub fn sides_of(
+    memory: &[u64],
+    standing: [u64; 4],
+    selected: &[[u64; 4]; 128],
+    direction: u64,
+) -> Sides
+    requires { ⌜ (wellFormed (now memory) ≡ true) × (bitAt standing ≡ stands (modelIn (now memory) .containers)) ⌝ }
+    requires { ⌜ (1 ≤ direction) × (direction ≤ 2) ⌝ }
     ensures { λ r. ⌜ SidesOf (modelIn (now (memory .entry))) (directionOf direction) (now (selected .entry)) r ⌝ }
 {
-    let standing = formed::containers_standing(memory);
     let out = of_direction(memory, direction);
     let back = of_direction(memory, 3 - direction);
     let chosen = rules::union_of(back, selected);
@@ -87,6 +140,22 @@ pub fn sides_of(memory: &[u64], selected: &[[u64; 4]; 128], direction: u64) -> S
         standing,
         out,
         back,
+        chosen,
+    }
+}
+
+// The same for the other direction.
+pub fn exchanged(sides: Sides, selected: &[[u64; 4]; 128]) -> Sides
+    ensures { λ r. ⌜ Exchanged sides (now (selected .entry)) r ⌝ }
+{
+    let standing = sides.standing;
+    let out = sides.out;
+    let back = sides.back;
+    let chosen = rules::union_of(out, selected);
+    Sides {
+        standing,
+        out: back,
+        back: out,
         chosen,
     }
 }

@@ -5,7 +5,7 @@ use Rattle.bitrow.proofs.with.Statement.{statement}
 use Rattle.bitrow.proofs.with.Tie as tie
 
 returns : tie.Need-returns
-returns c = insert-row _ _ (search needs) (c .pre)
+returns c = insert-row _ _ _ (search needs) (c .before .pre) (c .word-with .ensures)
 
 pub with-spec : {M : Type 1} → statement M
-with-spec = tie.close (tie.spec (λ c. search needs) (λ c. search needs) (λ c. search needs) (λ c. search needs) (λ c. search needs) returns)
+with-spec = tie.close (tie.spec (λ c. search needs) (λ c. search needs) (λ c κs. search needs) (λ c. search needs) (λ c. search needs) returns)

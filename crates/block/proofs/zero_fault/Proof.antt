@@ -2,36 +2,35 @@ use mathlib.Core.Path.{_≡_, _∙_, sym}
 use Prim.Native.Nat.{_-_}
 use borrow.Author.Needs.{needs}
 use borrow.Author.Tests.{eq-eqb, ne-eqb}
-use lib.Dec.{eqb}
-use Rattle.block.specs.Fault.{between, unless}
-use Rattle.block.specs.Bytes.{byteAt}
 use Rattle.block.specs.Reader.{zeroFault}
-use Rattle.block.proofs.Faults.{between-hit, between-skip, between-done}
+use Rattle.block.proofs.Faults.{between-hit, between-skip, between-done, clear-none}
 use Rattle.block.proofs.zero_fault.Statement.{statement}
 use Rattle.block.proofs.zero_fault.Tie as tie
 
 abbrev Inv-loop : tie.InvT-loop
-Inv-loop block from to i₀ i = zeroFault block from to ≡ between (λ j. unless (eqb (byteAt block j) 0) j) i to
+Inv-loop block from to i₀ i = zeroFault block from to ≡ zeroFault block i to
 
 abbrev μ-loop : tie.MeasureT-loop
 μ-loop block from to i₀ i = to - i
 
-loop-holds : tie.Need-loop-holds Inv-loop μ-loop
-unfolding zeroFault
-loop-holds c = search needs
-
 returns : tie.Need-returns Inv-loop μ-loop
-returns c =
-    let l = c .before .before .before .loop in
-    sym (l .inv ∙ between-hit _ (l .i) _ _ (c .before .before .loop-test .taken) (simp (ne-eqb _ _ (c .if1 .taken))))
-
-loop-again : tie.Need-loop-again Inv-loop μ-loop
-loop-again c =
-    let l = c .before .before .before .loop in
-    l .inv ∙ between-skip _ (l .i) _ (c .before .before .loop-test .taken) (simp (eq-eqb _ _ (c .if1 .left)))
+returns c = sym (clear-none _ (sym (c .before .joined .ensures) ∙ eq-eqb _ _ (c .if1 .taken)))
 
 returns-2 : tie.Need-returns-2 Inv-loop μ-loop
-returns-2 c = sym (c .before .loop .inv ∙ between-done _ (c .before .loop .i) _ (c .loop-test .left))
+unfolding zeroFault
+returns-2 c =
+    let l = c .before .before .before .loop in
+    sym (l .inv ∙ between-hit _ (l .i) _ _ (c .before .before .loop-test .taken) (simp (ne-eqb _ _ (c .if2 .taken))))
+
+loop-again : tie.Need-loop-again Inv-loop μ-loop
+unfolding zeroFault
+loop-again c =
+    let l = c .before .before .before .loop in
+    l .inv ∙ between-skip _ (l .i) _ (c .before .before .loop-test .taken) (simp (eq-eqb _ _ (c .if2 .left)))
+
+returns-3 : tie.Need-returns-3 Inv-loop μ-loop
+unfolding zeroFault
+returns-3 c = sym (c .before .loop .inv ∙ between-done _ (c .before .loop .i) _ (c .loop-test .left))
 
 pub zero-fault-spec : {M : Type 1} → statement M
 zero-fault-spec =
@@ -39,10 +38,12 @@ zero-fault-spec =
     (tie.spec
     Inv-loop
     μ-loop
-    loop-holds
-    (λ c. search needs)
+    (λ c κs. search needs)
     returns
     (λ c. search needs)
     (λ c. search needs)
+    returns-2
+    (λ c. search needs)
+    (λ c. search needs)
     loop-again
-    returns-2)
+    returns-3)

@@ -1,3 +1,4 @@
+-- `formed::containers_standing` meets its contract. Assumes nothing.
 use Rattle.formed.proofs.Standing.{containers-row}
 use borrow.Author.Needs.{needs}
 use Rattle.formed.proofs.containers_standing.Statement.{statement}
@@ -5,8 +6,8 @@ use Rattle.formed.proofs.containers_standing.Tie as tie
 
 returns : tie.Need-returns
 returns c =
-    containers-row (c .before .before .before .before .before .args .memory .now) _ _ _ _
-    (c .before .before .before .standing-word .ensures) (c .before .before .standing-word2 .ensures) (c .before .standing-word3 .ensures) (c .standing-word4 .ensures)
+    containers-row (c .before .before .before .before .before .args .memory .now) _ _ _ _ (search needs) (search needs) (search needs) (search needs)
+    (c .before .before .before .slots-with .ensures) (c .before .before .slots-with2 .ensures) (c .before .slots-with3 .ensures) (c .slots-with4 .ensures)
 
 pub containers-standing-spec : {M : Type 1} → statement M
 containers-standing-spec =

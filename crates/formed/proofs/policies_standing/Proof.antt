@@ -1,10 +1,11 @@
+-- `formed::policies_standing` meets its contract. Assumes nothing.
 use Rattle.formed.proofs.Standing.{policies-row}
 use borrow.Author.Needs.{needs}
 use Rattle.formed.proofs.policies_standing.Statement.{statement}
 use Rattle.formed.proofs.policies_standing.Tie as tie
 
 returns : tie.Need-returns
-returns c = policies-row (c .before .before .before .args .memory .now) _ _ (c .before .standing-word .ensures) (c .standing-word2 .ensures)
+returns c = policies-row (c .before .before .before .args .memory .now) _ _ (search needs) (search needs) (c .before .slots-with .ensures) (c .slots-with2 .ensures)
 
 pub policies-standing-spec : {M : Type 1} → statement M
 policies-standing-spec =

@@ -6,7 +6,7 @@ use Rattle.store.specs.Layout.{Whole, wordAt}
 use Rattle.formed.specs.Registry.{wellFormed}
 use Rattle.formed.proofs.Reading.{formed-whole, formed-small}
 use Rattle.formed.proofs.Trials.{container-within}
-use Rattle.formed.proofs.FormedEntries.{formed-heads}
+use Rattle.formed.proofs.FormedEntries.{formed-slots}
 use Rattle.registry.specs.declared.Tested.the-variants.{Passed}
 use Rattle.registry.proofs.TestLaws.{containerTest, memory-refused, memory-passed, container-passed, user-refused, user-above, user-answer, containers-within}
 use borrow.Author.Needs.{needs}
@@ -44,7 +44,7 @@ bounds c =
 carries-requires : tie.Need-carries-requires
 carries-requires c κs =
     let w = formed (c .before .before .before .before .before) in
-    container-within _ (formed-whole _ w) (formed-heads _ w) _ (bounds (c .before) .0)
+    container-within _ (formed-whole _ w) (formed-slots _ w) _ (bounds (c .before) .0)
 
 returns-4 : tie.Need-returns-4
 returns-4 c =

@@ -1,22 +1,18 @@
 -- `changes::policies::allowed_row` meets its contract. Assumes nothing.
 use mathlib.Core.Path.{ap, _∙_}
-use Rattle.formed.proofs.Reading.{formed-whole}
 use Rattle.reach.specs.Sets.{partSet}
 use Rattle.reach.proofs.Candidates.{allows-within, allowed-set}
 use Rattle.changes.proofs.policies.allowed_row.Statement.{statement}
 use Rattle.changes.proofs.policies.allowed_row.Tie as tie
 
-containers-standing-requires : tie.Need-containers-standing-requires
-containers-standing-requires c κs = formed-whole _ (c .before .pre .0)
-
 part-row-requires : tie.Need-part-row-requires
-part-row-requires c κs = let p = c .before .before .pre in (p .0, p .1, allows-within _ (p .0))
+part-row-requires c κs = let p = c .before .pre in (p .0, p .1, allows-within _ (p .0))
 
 returns : tie.Need-returns
 returns c =
-    let x = c .before .before .before .args in
-    let p = c .before .before .before .pre in
-    c .part-row .ensures ∙ ap (λ s. partSet (x .memory .now) s 6 (x .q)) (c .before .containers-standing .ensures) ∙ allowed-set (x .memory .now) (x .q) (p .1)
+    let x = c .before .before .args in
+    let p = c .before .before .pre in
+    c .part-row .ensures ∙ ap (λ s. partSet (x .memory .now) s 6 (x .q)) (p .2) ∙ allowed-set (x .memory .now) (x .q) (p .1)
 
 pub allowed-row-spec : {M : Type 1} → statement M
-allowed-row-spec = tie.close (tie.spec containers-standing-requires part-row-requires returns)
+allowed-row-spec = tie.close (tie.spec part-row-requires returns)

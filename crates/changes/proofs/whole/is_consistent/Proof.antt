@@ -3,36 +3,34 @@ use borrow.Author.Needs.{needs}
 use native.Mathlib.Omega.{arith}
 use mathlib.Core.Path.{_≡_, sym, _∙_}
 use Prim.Native.Nat.{_-_}
-use Rattle.block.specs.Reader.{directionOf}
 use Rattle.model.specs.Registry.{consistent}
 use Rattle.formed.specs.Registry.{registryIn}
 use Rattle.formed.specs.Tests.{between}
 use Rattle.formed.proofs.Reading.{formed-whole}
 use Rattle.formed.proofs.Runs.{between-hit, between-skip, between-done, said-no, said-yes}
-use Rattle.reach.proofs.Candidates.{policies-length}
-use Rattle.changes.proofs.WholeLaws.{ruledRow, same-rows, rule-row, consistent-rows}
+use Rattle.reach.proofs.Candidates.{none-known}
+use Rattle.reach.proofs.LineLaws.{empty-rows}
+use Rattle.changes.proofs.WholeLaws.{ruledRow, same-rows, consistent-rows}
 use Rattle.changes.proofs.whole.is_consistent.Statement.{statement}
 use Rattle.changes.proofs.whole.is_consistent.Tie as tie
 
 abbrev Inv-loop : tie.InvT-loop
-Inv-loop memory selected allowed sides x₀ x = consistent (registryIn memory) ≡ between (ruledRow memory) x 512
+Inv-loop memory selected allowed outs backs gathered x₀ x = consistent (registryIn memory) ≡ between (ruledRow memory) x 512
 
 abbrev μ-loop : tie.MeasureT-loop
-μ-loop memory selected allowed sides x₀ x = 512 - x
+μ-loop memory selected allowed outs backs gathered x₀ x = 512 - x
 
-sides-of-requires : tie.Need-sides-of-requires Inv-loop μ-loop
-sides-of-requires c κs = (c .before .before .before .before .pre, omega arith, omega arith)
+containers-standing-requires : tie.Need-containers-standing-requires Inv-loop μ-loop
+containers-standing-requires c κs = formed-whole _ (c .before .pre)
+
+gather-requires : tie.Need-gather-requires Inv-loop μ-loop
+gather-requires c κs = let s = c .before .before .before .before in ((s .before .before .pre, s .containers-standing .ensures), (none-known (empty-rows 128) (empty-rows 128), (empty-rows 256, empty-rows 256)))
 
 loop-holds : tie.Need-loop-holds Inv-loop μ-loop
-loop-holds c = consistent-rows _ (c .before .before .before .before .before .pre)
-
-row-of-bits-requires : tie.Need-row-of-bits-requires Inv-loop μ-loop
-row-of-bits-requires c κs = let t = c .before .before in (omega (arith, t .loop-test .taken), t .before .before .sides-of .ensures .chosen)
+loop-holds c = consistent-rows _ (c .before .before .before .before .before .before .before .pre)
 
 row-at-requires : tie.Need-row-at-requires Inv-loop μ-loop
-row-at-requires c κs =
-    let t = c .before .before .before in
-    (formed-whole _ (t .before .before .before .before .before .before .before .pre), omega (arith, t .loop-test .taken))
+row-at-requires c κs = let t = c .before .before .before .before .before in (formed-whole _ (t .before .before .before .before .before .before .before .before .before .pre), omega (arith, t .loop-test .taken))
 
 -- whether the row is by the rules
 module _ (c : tie.After-same Inv-loop μ-loop) where
@@ -40,16 +38,13 @@ module _ (c : tie.After-same Inv-loop μ-loop) where
   row = c .before .before
 
   abbrev turn : tie.In-loop Inv-loop μ-loop
-  turn = row .before .before .before
+  turn = row .before .before .before .before .before
 
-  ruled : c .same .result ≡ ruledRow (turn .before .before .before .before .before .before .before .args .memory .now) (turn .before .loop .x)
-  unfolding directionOf
+  ruled : c .same .result ≡ ruledRow (turn .before .before .before .before .before .before .before .before .before .args .memory .now) (turn .before .loop .x)
   ruled =
-      let d = turn .before .before in
-      let a = d .before .before in
+      let g = turn .before .before in
       same-rows _ _ _ (c .before .row-at .ensures)
-      (row .row-of-bits .ensures ∙ rule-row _ (policies-length _) (record { selected = a .before .selected-sets .ensures; allowed = a .allowed-sets .ensures }) (d .sides-of .ensures) _ (omega (arith, turn .loop-test .taken)))
-      (c .same .ensures)
+      (row .row-of-bits .ensures .is (g .gather .ensures) (g .before .before .before .before .before .containers-standing .ensures)) (c .same .ensures)
 
 returns : tie.Need-returns Inv-loop μ-loop
 returns c = let l = turn (c .before) .before .loop in sym (l .inv ∙ between-hit _ (l .x) _ (omega arith) (said-no (ruled (c .before)) (c .if1 .taken)))
@@ -66,11 +61,10 @@ is-consistent-spec =
     (tie.spec
     Inv-loop
     μ-loop
-    (λ c κs. search needs)
-    (λ c κs. search needs)
-    sides-of-requires
+    containers-standing-requires
+    gather-requires
     loop-holds
-    row-of-bits-requires
+    (λ c κs. search needs)
     row-at-requires
     (λ c κs. search needs)
     returns

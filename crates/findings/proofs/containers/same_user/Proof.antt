@@ -8,7 +8,7 @@ use Rattle.bitrow.proofs.Sets.{meet-nothing, under-zero}
 use Rattle.bitrow.proofs.Rows.{row-bounded}
 use Rattle.bitrow.proofs.Searches.{lowest-at, lowest-nothing}
 use Rattle.formed.proofs.Trials.{container-within, gather-take, gather-skip, gather-done}
-use Rattle.formed.proofs.FormedEntries.{formed-heads}
+use Rattle.formed.proofs.FormedEntries.{formed-slots}
 use Rattle.findings.specs.Rows.{withUser}
 use Rattle.findings.proofs.Words.{user-yes, user-no}
 use Rattle.findings.proofs.containers.same_user.Statement.{statement}
@@ -44,7 +44,7 @@ add-word-under c = let j = lowest (c .before) .below in search needs
 word-under-requires : tie.Need-word-under-requires Inv-loop μ-loop
 word-under-requires c κs =
     let p = c .before .before .before .before .before .before .before .before .pre in
-    container-within _ (p .1) (formed-heads _ (p .0)) _ (lowest (c .before) .below)
+    container-within _ (p .1) (formed-slots _ (p .0)) _ (lowest (c .before) .below)
 
 with-requires : tie.Need-with-requires Inv-loop μ-loop
 with-requires c κs = lowest (c .before .before .before) .below

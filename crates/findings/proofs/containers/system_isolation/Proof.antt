@@ -5,7 +5,7 @@ use borrow.Author.Tests.{not-true, not-false}
 use Rattle.bitrow.specs.Bit.{bitAt}
 use Rattle.bitrow.specs.Set.{less, remove}
 use Rattle.formed.proofs.Trials.{container-within}
-use Rattle.formed.proofs.FormedEntries.{formed-heads}
+use Rattle.formed.proofs.FormedEntries.{formed-slots}
 use Rattle.findings.proofs.Words.{system-small, system-unset, system-set}
 use Rattle.findings.proofs.ContainerRows.{system-none, system-row}
 use Rattle.findings.proofs.containers.system_isolation.Statement.{statement}
@@ -25,7 +25,7 @@ add-word c = let b = system-small _ (c .before .before .before .before .pre .for
 carries-requires : tie.Need-carries-requires
 carries-requires c κs =
     let p = c .before .before .before .before .pre in
-    container-within _ (p .whole) (formed-heads _ (p .formed)) _ (p .below)
+    container-within _ (p .whole) (formed-slots _ (p .formed)) _ (p .below)
 
 returns-2 : tie.Need-returns-2
 returns-2 c =

@@ -3,7 +3,7 @@ use mathlib.Core.Path.{_≡_, ap, ap₂, _∙_}
 use Rattle.bitrow.specs.Bit.{bitAt}
 use Rattle.bitrow.specs.Set.{meet, remove}
 use Rattle.formed.proofs.Trials.{container-within}
-use Rattle.formed.proofs.FormedEntries.{formed-heads}
+use Rattle.formed.proofs.FormedEntries.{formed-slots}
 use Rattle.findings.proofs.ContainerRows.{others, cross-row, cross-all}
 use Rattle.findings.proofs.containers.user_cross.Statement.{statement}
 use Rattle.findings.proofs.containers.user_cross.Tie as tie
@@ -17,7 +17,7 @@ others-are w =
 word-under-requires : tie.Need-word-under-requires
 word-under-requires c κs =
     let p = c .before .before .before .before .before .pre in
-    container-within _ (p .whole) (formed-heads _ (p .formed)) _ (p .below)
+    container-within _ (p .whole) (formed-slots _ (p .formed)) _ (p .below)
 
 returns : tie.Need-returns
 returns c =

@@ -3,7 +3,7 @@ use borrow.Author.Needs.{needs}
 use native.Mathlib.Omega.{arith}
 use mathlib.Core.Path.{_∙_}
 use Rattle.formed.proofs.Reading.{formed-whole}
-use Rattle.formed.proofs.FormedEntries.{formed-heads}
+use Rattle.formed.proofs.FormedEntries.{formed-slots}
 use Rattle.reach.proofs.Candidates.{part-free, part-taken}
 use Rattle.reach.proofs.sets.part_row.Statement.{statement}
 use Rattle.reach.proofs.sets.part_row.Tie as tie
@@ -15,10 +15,10 @@ returns : tie.Need-returns
 returns c = c .none .ensures ∙ part-free _ _ _ _ (c .before .if1 .taken)
 
 add-trial : tie.Need-add-trial
-add-trial c = let s = c .before .before .before in omega (arith, formed-whole _ (s .pre .0), s .pre .2 .part (s .args .q) (s .pre .1) .header)
+add-trial c = let s = c .before .before .before in omega (arith, formed-whole _ (s .pre .0), s .pre .2 .part (s .args .q) (s .pre .1) .within .header)
 
 trial-requires : tie.Need-trial-requires
-trial-requires c κs = let s = c .before .before .before in (formed-whole _ (s .pre .0), s .pre .2 .part (s .args .q) (s .pre .1), formed-heads _ (s .pre .0))
+trial-requires c κs = let s = c .before .before .before in (formed-whole _ (s .pre .0), s .pre .2 .part (s .args .q) (s .pre .1), formed-slots _ (s .pre .0))
 
 returns-2 : tie.Need-returns-2
 returns-2 c = c .trial .ensures ∙ part-taken _ _ _ _ (c .before .if1 .left)

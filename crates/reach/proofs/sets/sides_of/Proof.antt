@@ -1,27 +1,22 @@
 -- `reach::sets::sides_of` meets its contract. Assumes nothing.
 use borrow.Author.Needs.{needs}
 use mathlib.Core.Path.{ap, _∙_}
-use Rattle.formed.proofs.Reading.{formed-whole}
 use Rattle.reach.specs.Sets.{directionSet}
 use Rattle.reach.proofs.Candidates.{other-direction}
 use Rattle.reach.proofs.sets.sides_of.Statement.{statement}
 use Rattle.reach.proofs.sets.sides_of.Tie as tie
 
-containers-standing-requires : tie.Need-containers-standing-requires
-containers-standing-requires c κs = formed-whole _ (c .before .pre .0)
-
 returns : tie.Need-returns
 returns c =
     let b = c .before in
     let o = b .before in
-    let s = o .before in
-    let p = s .before .before .pre in
+    let p = o .before .before .pre in
     record {
-      standing = s .containers-standing .ensures;
+      standing = p .0 .1;
       out = o .of-direction .ensures;
-      back = b .of-direction2 .ensures ∙ ap (directionSet _) (other-direction _ (p .1) (p .2));
+      back = b .of-direction2 .ensures ∙ ap (directionSet _) (other-direction _ (p .1 .0) (p .1 .1));
       chosen = c .union-of .ensures;
     }
 
 pub sides-of-spec : {M : Type 1} → statement M
-sides-of-spec = tie.close (tie.spec containers-standing-requires (λ c κs. search needs) (λ c. search needs) (λ c κs. search needs) (λ c κs. search needs) returns)
+sides-of-spec = tie.close (tie.spec (λ c κs. search needs) (λ c. search needs) (λ c κs. search needs) (λ c κs. search needs) returns)
