@@ -1,14 +1,21 @@
 //! The same calls under the same contract in plain Rust, as an engineer would write them for speed: the memory's layout, the
-//! test of the whole memory before each call, candidate sets from the entries. It is what the benchmarks compare with.
+//! test of the whole memory before each call, candidate sets from the entries. It is what the benchmarks compare with, by either
+//! of two sets of algorithms: `ByTrials`, those of the first release, and `ByLabels`, those of the register today.
 
 use crate::reference::refused;
+
+mod labels;
+mod trials;
+
+pub use labels::{first_place, ByLabels};
+pub use trials::ByTrials;
 
 pub const WORDS: usize = 5763;
 const CONTAINERS: usize = 3;
 const POLICIES: usize = 2307;
 const ROWS: usize = 3715;
 
-type Row = [u64; 4];
+pub type Row = [u64; 4];
 
 fn has(row: &Row, i: usize) -> bool {
     row[i / 64] >> (i % 64) & 1 == 1
@@ -135,6 +142,24 @@ fn number(b: &[u8], at: usize) -> u64 {
     u64::from(b[at]) * 256 + u64::from(b[at + 1])
 }
 
+/// Where the two sets of algorithms differ.
+pub trait Algorithms {
+    /// Whether all of these bytes are zero.
+    fn zero(bytes: &[u8]) -> bool;
+    /// Of the standing containers, those that the part matches.
+    fn part_row(m: &[u64], part: usize, containers: Row) -> Row;
+    /// Container c's bits by the rules, after its entry was stored.
+    fn container_admitted(m: &mut [u64], c: usize);
+    /// Policy q's sets and the bits that it touches, after its entry was stored.
+    fn policy_admitted(m: &mut [u64], q: usize);
+    /// The same, after its entry was cleared; it had this direction and selected these containers.
+    fn policy_removed(m: &mut [u64], q: usize, direction: u64, selected: Row);
+    /// What each policy selects and allows, into sets that are empty.
+    fn sets(m: &[u64], s: &mut Sets);
+    /// Every row of the matrix by the rules.
+    fn rows(s: &Sets, each: impl FnMut(usize, Row));
+}
+
 fn frame(b: &[u8]) -> Result<(), u64> {
     if b.len() != 512 {
         return Err(3);
@@ -166,9 +191,9 @@ pub enum Entry {
     Policy([u64; 11]),
 }
 
-pub fn read_entry(b: &[u8]) -> Result<Entry, u64> {
+pub fn read_entry<A: Algorithms>(b: &[u8]) -> Result<Entry, u64> {
     frame(b)?;
-    let zero = |from: usize| b[from..510].iter().all(|x| *x == 0);
+    let zero = |from: usize| A::zero(&b[from..510]);
     match b[0] {
         67 => {
             let n = usize::from(b[1]);
@@ -213,7 +238,7 @@ pub fn read_entry(b: &[u8]) -> Result<Entry, u64> {
     }
 }
 
-pub fn open(m: &mut [u64], b: &[u8]) -> u64 {
+pub fn open<A: Algorithms>(m: &mut [u64], b: &[u8]) -> u64 {
     if m.len() != WORDS {
         return refused(1);
     }
@@ -227,7 +252,7 @@ pub fn open(m: &mut [u64], b: &[u8]) -> u64 {
     if user == 0 || user > 64 || key > 64 || (key == 0) != (value == 0) {
         return refused(7);
     }
-    if b[3] != 0 || b[6..510].iter().any(|x| *x != 0) {
+    if b[3] != 0 || !A::zero(&b[6..510]) {
         return refused(9);
     }
     m.fill(0);
@@ -235,14 +260,21 @@ pub fn open(m: &mut [u64], b: &[u8]) -> u64 {
     0
 }
 
-// ---- by the rules
+// ---- by the rules, as both do it
 
-fn matches(m: &[u64], part: usize, at: usize) -> bool {
-    let (p, c) = (&m[part + 1..part + m[part] as usize], &m[at + 1..at + m[at] as usize]);
-    p.iter().all(|w| c.contains(w))
+/// The standing policies of a direction.
+fn of_direction(m: &[u64], direction: u64) -> Row {
+    let mut row = [0; 4];
+    for q in 0..128 {
+        if m[POLICIES + 11 * q] == direction {
+            put(&mut row, q);
+        }
+    }
+    row
 }
 
-struct Sets {
+/// What a line of the matrix is worked out from.
+pub struct Sets {
     selected: [Row; 128],
     allowed: [Row; 128],
     ingress: Row,
@@ -250,29 +282,17 @@ struct Sets {
     containers: Row,
 }
 
-fn sets(m: &[u64]) -> Sets {
-    let containers = standing(m, CONTAINERS, 9, 256);
-    let mut s = Sets { selected: [[0; 4]; 128], allowed: [[0; 4]; 128], ingress: [0; 4], egress: [0; 4], containers };
-    for q in 0..128 {
-        let at = POLICIES + 11 * q;
-        match m[at] {
-            0 => continue,
-            1 => put(&mut s.ingress, q),
-            _ => put(&mut s.egress, q),
-        }
-        let mut from = 0;
-        while let Some(c) = next_from(&containers, from) {
-            let slot = CONTAINERS + 9 * c;
-            if matches(m, at + 1, slot) {
-                put(&mut s.selected[q], c);
-            }
-            if matches(m, at + 6, slot) {
-                put(&mut s.allowed[q], c);
-            }
-            from = c + 1;
+impl Sets {
+    /// With the standing entries, and no policy's sets.
+    fn new(m: &[u64]) -> Sets {
+        Sets {
+            selected: [[0; 4]; 128],
+            allowed: [[0; 4]; 128],
+            ingress: of_direction(m, 1),
+            egress: of_direction(m, 2),
+            containers: standing(m, CONTAINERS, 9, 256),
         }
     }
-    s
 }
 
 fn union(policies: &Row, rows: &[Row; 128]) -> Row {
@@ -307,35 +327,21 @@ fn by_rules(s: &Sets, out: &Row, back: &Row, chosen: Row, a: usize) -> Row {
     either(except(first, chosen), both(first, taken))
 }
 
-fn policy_changed(m: &mut [u64], q: usize, direction: u64, sel: Row) {
-    let s = sets(m);
-    set_row(m, 256 + 2 * q, s.selected[q]);
-    set_row(m, 257 + 2 * q, s.allowed[q]);
-    let chosen = union(&s.ingress, &s.selected);
+/// Container c's row and column of the matrix, and its bit in each policy's two sets.
+fn set_container(m: &mut [u64], s: &Sets, c: usize) {
+    let row = by_rules(s, &s.egress, &s.ingress, union(&s.ingress, &s.selected), c);
+    let column = by_rules(s, &s.ingress, &s.egress, union(&s.egress, &s.selected), c);
+    set_row(m, c, row);
     for a in 0..256 {
-        let mask = match direction {
-            1 => sel,
-            _ if has(&sel, a) => s.containers,
-            _ => continue,
-        };
-        if has(&s.containers, a) {
-            let row = by_rules(&s, &s.egress, &s.ingress, chosen, a);
-            set_row(m, a, either(except(row_at(m, a), mask), both(row, mask)));
-        }
+        set_bit(m, a, c, has(&column, a));
+    }
+    for q in 0..128 {
+        set_bit(m, 256 + 2 * q, c, has(&s.selected[q], c));
+        set_bit(m, 257 + 2 * q, c, has(&s.allowed[q], c));
     }
 }
 
-fn selecting(m: &[u64], part: usize) -> Row {
-    let containers = standing(m, CONTAINERS, 9, 256);
-    let (mut row, mut from) = ([0; 4], 0);
-    while let Some(c) = next_from(&containers, from) {
-        if matches(m, part, CONTAINERS + 9 * c) {
-            put(&mut row, c);
-        }
-        from = c + 1;
-    }
-    row
-}
+// ---- calls
 
 fn lowest_free(m: &[u64], start: usize, words: usize, slots: usize) -> Option<usize> {
     (0..slots).find(|i| m[start + words * i] == 0)
@@ -355,32 +361,21 @@ fn answer(r: Result<u64, u64>) -> u64 {
     r.unwrap_or_else(refused)
 }
 
-pub fn admit(m: &mut [u64], b: &[u8]) -> u64 {
+pub fn admit<A: Algorithms>(m: &mut [u64], b: &[u8]) -> u64 {
     answer((|| {
         tested(m)?;
-        match read_entry(b)? {
+        match read_entry::<A>(b)? {
             Entry::Container(words) => {
                 let c = lowest_free(m, CONTAINERS, 9, 256).ok_or(12u64)?;
                 m[CONTAINERS + 9 * c..CONTAINERS + 9 * c + 9].copy_from_slice(&words);
-                let s = sets(m);
-                let row = by_rules(&s, &s.egress, &s.ingress, union(&s.ingress, &s.selected), c);
-                let column = by_rules(&s, &s.ingress, &s.egress, union(&s.egress, &s.selected), c);
-                set_row(m, c, row);
-                for a in 0..256 {
-                    set_bit(m, a, c, has(&column, a));
-                }
-                for q in 0..128 {
-                    set_bit(m, 256 + 2 * q, c, has(&s.selected[q], c));
-                    set_bit(m, 257 + 2 * q, c, has(&s.allowed[q], c));
-                }
+                A::container_admitted(m, c);
                 Ok(c as u64)
             }
             Entry::Policy(words) => {
                 let q = lowest_free(m, POLICIES, 11, 128).ok_or(12u64)?;
                 let at = POLICIES + 11 * q;
                 m[at..at + 11].copy_from_slice(&words);
-                let sel = selecting(m, at + 1);
-                policy_changed(m, q, words[0], sel);
+                A::policy_admitted(m, q);
                 Ok(q as u64)
             }
         }
@@ -410,14 +405,14 @@ pub fn remove_container(m: &mut [u64], i: u64) -> u64 {
     })())
 }
 
-pub fn remove_policy(m: &mut [u64], i: u64) -> u64 {
+pub fn remove_policy<A: Algorithms>(m: &mut [u64], i: u64) -> u64 {
     answer((|| {
         tested(m)?;
         let q = slot(m, POLICIES, 11, 128, i)?;
         let at = POLICIES + 11 * q;
-        let (direction, sel) = (m[at], selecting(m, at + 1));
+        let (direction, selected) = (m[at], A::part_row(m, at + 1, standing(m, CONTAINERS, 9, 256)));
         m[at..at + 11].fill(0);
-        policy_changed(m, q, direction, sel);
+        A::policy_removed(m, q, direction, selected);
         Ok(0)
     })())
 }
@@ -461,34 +456,34 @@ pub fn counts(m: &[u64]) -> u64 {
     })())
 }
 
-fn computed(m: &[u64], mut each: impl FnMut(usize, Row)) {
-    let s = sets(m);
-    let chosen = union(&s.ingress, &s.selected);
-    for a in 0..256 {
-        each(a, by_rules(&s, &s.egress, &s.ingress, chosen, a));
-    }
-    for q in 0..128 {
-        each(256 + 2 * q, s.selected[q]);
-        each(257 + 2 * q, s.allowed[q]);
-    }
-}
-
-pub fn rebuild(m: &mut [u64]) -> u64 {
+pub fn rebuild<A: Algorithms>(m: &mut [u64]) -> u64 {
     if let Err(n) = tested(m) {
         return refused(n);
     }
-    let entries = m.to_vec();
-    computed(&entries, |r, row| set_row(m, r, row));
+    let mut s = Sets::new(m);
+    A::sets(m, &mut s);
+    A::rows(&s, |a, row| set_row(m, a, row));
+    for q in 0..128 {
+        set_row(m, 256 + 2 * q, s.selected[q]);
+        set_row(m, 257 + 2 * q, s.allowed[q]);
+    }
     0
 }
 
-pub fn audit(m: &[u64]) -> u64 {
+pub fn audit<A: Algorithms>(m: &[u64]) -> u64 {
     if let Err(n) = tested(m) {
         return refused(n);
     }
-    let mut same = true;
-    computed(m, |r, row| same &= row_at(m, r) == row);
-    u64::from(same)
+    let mut s = Sets::new(m);
+    A::sets(m, &mut s);
+    let mut other = 0;
+    let mut compare = |r: usize, row: Row| (0..4).for_each(|k| other |= m[ROWS + 4 * r + k] ^ row[k]);
+    A::rows(&s, &mut compare);
+    for q in 0..128 {
+        compare(256 + 2 * q, s.selected[q]);
+        compare(257 + 2 * q, s.allowed[q]);
+    }
+    u64::from(other == 0)
 }
 
 // ---- findings

@@ -4,5 +4,8 @@ pub mod baseline;
 pub mod bytes;
 pub mod c;
 pub mod cases;
+pub mod clock;
 pub mod random;
 pub mod reference;
+pub mod registries;
+pub mod stack;

@@ -4,7 +4,7 @@
 use bihokura_tests::cases::{calls, check, damaged, differs, disordered, memory, settings};
 use bihokura_tests::random::Random;
 use bihokura_tests::reference::{refused, Call, WORDS};
-use bihokura_tests::{bytes, c, cases};
+use bihokura_tests::{bytes, c, cases, registries};
 use std::time::{Duration, Instant};
 
 /// Seeds from a fixed one on, until the time is up or all are done.
@@ -106,6 +106,16 @@ fn zeros_are_not_well_formed() {
     let m = vec![0; WORDS];
     assert_eq!(c::counts(&m), refused(2));
     assert_eq!(c::audit(&m), refused(2));
+}
+
+#[test]
+fn full_registries() {
+    for r in registries::all().iter().chain([&registries::crowded()]) {
+        let m = r.memory(256, 128);
+        check(r.name, 0, &m, &r.calls());
+        let m = disordered(&mut Random::new(50_000), &m);
+        check(r.name, 50_000, &m, &r.calls());
+    }
 }
 
 #[test]

@@ -1,9 +1,18 @@
-//! lister in plain Rust over the baseline, for `bench`: the same input, the same lines.
+//! lister in plain Rust over the baseline, for `bench`: the same input, the same lines. `plain_lister trials` works by the first
+//! release's algorithms, `plain_lister labels` by the register's.
 
-use bihokura_tests::baseline as b;
+use bihokura_tests::baseline::{self as b, Algorithms, ByLabels, ByTrials};
 use std::io::{Read, Write};
 
 fn main() {
+    match std::env::args().nth(1).as_deref() {
+        Some("trials") => list::<ByTrials>(),
+        Some("labels") => list::<ByLabels>(),
+        _ => panic!("plain_lister trials or plain_lister labels"),
+    }
+}
+
+fn list<A: Algorithms>() {
     let mut input = Vec::new();
     std::io::stdin().read_to_end(&mut input).unwrap();
     let mut out = std::io::BufWriter::with_capacity(65536, std::io::stdout().lock());
@@ -13,7 +22,7 @@ fn main() {
     }
     let mut m = vec![0; b::WORDS];
     for (i, block) in input.chunks(512).enumerate() {
-        let answer = if i == 0 { b::open(&mut m, block) } else { b::admit(&mut m, block) };
+        let answer = if i == 0 { b::open::<A>(&mut m, block) } else { b::admit::<A>(&mut m, block) };
         if answer >> 56 != 0 {
             writeln!(out, "REFUSED {} {}", i + 1, answer >> 56).unwrap();
             if i == 0 {

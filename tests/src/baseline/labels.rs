@@ -1,0 +1,191 @@
+//! The register's algorithms: for each label of the policies' parts the row of the containers that carry it, a part's set the
+//! meet of its labels' rows; rows of the matrix gathered policy by policy.
+
+use super::*;
+
+pub struct ByLabels;
+
+/// Where probing for a label begins.
+pub fn first_place(label: u64) -> usize {
+    (label.wrapping_mul(2_654_435_769) as u32 >> 22) as usize
+}
+
+/// Of eight places, the first that has the label or nothing.
+fn place(labels: &[u64; 1024], label: u64) -> usize {
+    let mut h = first_place(label);
+    for _ in 0..8 {
+        if labels[h] == label || labels[h] == 0 {
+            break;
+        }
+        h = (h + 1) % 1024;
+    }
+    h
+}
+
+fn labels_of(m: &[u64], part: usize) -> &[u64] {
+    match m[part] {
+        0 => &[],
+        head => &m[part + 1..part + head as usize],
+    }
+}
+
+fn matches(m: &[u64], part: usize, at: usize) -> bool {
+    let c: &[u64; 8] = m[at + 1..at + 9].try_into().unwrap();
+    labels_of(m, part).iter().all(|w| c.iter().fold(false, |t, v| t | (v == w)))
+}
+
+fn trial(m: &[u64], part: usize, candidates: Row) -> Row {
+    let mut row = [0; 4];
+    for k in 0..4 {
+        let mut rest = candidates[k];
+        while rest != 0 {
+            let i = rest.trailing_zeros() as usize;
+            rest &= rest - 1;
+            if matches(m, part, CONTAINERS + 9 * (64 * k + i)) {
+                row[k] |= 1 << i;
+            }
+        }
+    }
+    row
+}
+
+struct LabelRows {
+    labels: [u64; 1024],
+    rows: [Row; 1024],
+}
+
+impl LabelRows {
+    /// The labels of all parts, and every container in the rows of its labels.
+    fn fill(&mut self, m: &[u64]) {
+        for q in 0..128 {
+            let at = POLICIES + 11 * q;
+            for part in [at + 1, at + 6] {
+                for label in labels_of(m, part) {
+                    let h = place(&self.labels, *label);
+                    if self.labels[h] == 0 {
+                        self.labels[h] = *label;
+                    }
+                }
+            }
+        }
+        for c in 0..256 {
+            for label in labels_of(m, CONTAINERS + 9 * c) {
+                let h = place(&self.labels, *label);
+                if self.labels[h] == *label {
+                    put(&mut self.rows[h], c);
+                }
+            }
+        }
+    }
+
+    fn matching(&self, m: &[u64], part: usize, candidates: Row) -> Row {
+        let (mut left, mut all) = (candidates, true);
+        for label in labels_of(m, part) {
+            let h = place(&self.labels, *label);
+            if self.labels[h] == *label {
+                left = both(left, self.rows[h]);
+            } else {
+                all = false;
+            }
+        }
+        if all { left } else { trial(m, part, left) }
+    }
+}
+
+/// The sets of all policies but one, if it is known already.
+fn fill(m: &[u64], s: &mut Sets, known: Option<usize>) {
+    if is_empty(&either(s.ingress, s.egress)) {
+        return;
+    }
+    let mut l = LabelRows { labels: [0; 1024], rows: [[0; 4]; 1024] };
+    l.fill(m);
+    for q in 0..128 {
+        let at = POLICIES + 11 * q;
+        if m[at] != 0 && known != Some(q) {
+            s.selected[q] = l.matching(m, at + 1, s.containers);
+            s.allowed[q] = l.matching(m, at + 6, s.containers);
+        }
+    }
+}
+
+fn join(lines: &mut [Row; 256], who: Row, whom: Row) {
+    for k in 0..4 {
+        let mut rest = who[k];
+        while rest != 0 {
+            let a = 64 * k + rest.trailing_zeros() as usize;
+            rest &= rest - 1;
+            lines[a] = either(lines[a], whom);
+        }
+    }
+}
+
+/// The rows of some containers, and no others.
+fn lines(s: &Sets, some: Row, mut each: impl FnMut(usize, Row)) {
+    let (mut outs, mut backs) = ([[0; 4]; 256], [[0; 4]; 256]);
+    for q in 0..128 {
+        if has(&s.egress, q) {
+            join(&mut outs, both(s.selected[q], some), s.allowed[q]);
+        } else if has(&s.ingress, q) {
+            join(&mut backs, both(s.allowed[q], some), s.selected[q]);
+        }
+    }
+    let (bound, chosen) = (union(&s.egress, &s.selected), union(&s.ingress, &s.selected));
+    for a in 0..256 {
+        if has(&some, a) {
+            let there = if has(&bound, a) { both(s.containers, outs[a]) } else { s.containers };
+            each(a, either(except(there, chosen), both(there, backs[a])));
+        }
+    }
+}
+
+/// The bits that a policy of this direction touches, which selects these containers. Its two sets are stored.
+fn reset(m: &mut [u64], q: usize, direction: u64, selected: Row) {
+    if is_empty(&selected) {
+        return;
+    }
+    let mut s = Sets::new(m);
+    s.selected[q] = row_at(m, 256 + 2 * q);
+    s.allowed[q] = row_at(m, 257 + 2 * q);
+    fill(m, &mut s, Some(q));
+    let (rows, columns) = if direction == 2 { (selected, s.containers) } else { (s.containers, selected) };
+    lines(&s, rows, |a, row| set_row(m, a, either(except(row_at(m, a), columns), both(row, columns))));
+}
+
+impl Algorithms for ByLabels {
+    fn zero(bytes: &[u8]) -> bool {
+        bytes.iter().fold(0, |x, y| x | y) == 0
+    }
+
+    fn part_row(m: &[u64], part: usize, containers: Row) -> Row {
+        trial(m, part, containers)
+    }
+
+    fn container_admitted(m: &mut [u64], c: usize) {
+        let mut s = Sets::new(m);
+        fill(m, &mut s, None);
+        set_container(m, &s, c);
+    }
+
+    fn policy_admitted(m: &mut [u64], q: usize) {
+        let (at, containers) = (POLICIES + 11 * q, standing(m, CONTAINERS, 9, 256));
+        let (selected, allowed) = (trial(m, at + 1, containers), trial(m, at + 6, containers));
+        set_row(m, 256 + 2 * q, selected);
+        set_row(m, 257 + 2 * q, allowed);
+        reset(m, q, m[at], selected);
+    }
+
+    fn policy_removed(m: &mut [u64], q: usize, direction: u64, selected: Row) {
+        set_row(m, 256 + 2 * q, [0; 4]);
+        set_row(m, 257 + 2 * q, [0; 4]);
+        reset(m, q, direction, selected);
+    }
+
+    fn sets(m: &[u64], s: &mut Sets) {
+        fill(m, s, None);
+    }
+
+    fn rows(s: &Sets, mut each: impl FnMut(usize, Row)) {
+        lines(s, s.containers, &mut each);
+        (0..256).filter(|a| !has(&s.containers, *a)).for_each(|a| each(a, [0; 4]));
+    }
+}

@@ -1,0 +1,85 @@
+//! The first release's algorithms: each part is tried against each container, each row goes through all policies.
+
+use super::*;
+
+pub struct ByTrials;
+
+fn matches(m: &[u64], part: usize, at: usize) -> bool {
+    let (p, c) = (&m[part + 1..part + m[part] as usize], &m[at + 1..at + m[at] as usize]);
+    p.iter().all(|w| c.contains(w))
+}
+
+impl Algorithms for ByTrials {
+    fn zero(bytes: &[u8]) -> bool {
+        bytes.iter().all(|x| *x == 0)
+    }
+
+    fn part_row(m: &[u64], part: usize, containers: Row) -> Row {
+        let (mut row, mut from) = ([0; 4], 0);
+        while let Some(c) = next_from(&containers, from) {
+            if matches(m, part, CONTAINERS + 9 * c) {
+                put(&mut row, c);
+            }
+            from = c + 1;
+        }
+        row
+    }
+
+    fn container_admitted(m: &mut [u64], c: usize) {
+        let mut s = Sets::new(m);
+        Self::sets(m, &mut s);
+        set_container(m, &s, c);
+    }
+
+    fn policy_admitted(m: &mut [u64], q: usize) {
+        let at = POLICIES + 11 * q;
+        let selected = Self::part_row(m, at + 1, standing(m, CONTAINERS, 9, 256));
+        Self::policy_removed(m, q, m[at], selected);
+    }
+
+    fn policy_removed(m: &mut [u64], q: usize, direction: u64, selected: Row) {
+        let mut s = Sets::new(m);
+        Self::sets(m, &mut s);
+        set_row(m, 256 + 2 * q, s.selected[q]);
+        set_row(m, 257 + 2 * q, s.allowed[q]);
+        let chosen = union(&s.ingress, &s.selected);
+        for a in 0..256 {
+            let mask = match direction {
+                1 => selected,
+                _ if has(&selected, a) => s.containers,
+                _ => continue,
+            };
+            if has(&s.containers, a) {
+                let row = by_rules(&s, &s.egress, &s.ingress, chosen, a);
+                set_row(m, a, either(except(row_at(m, a), mask), both(row, mask)));
+            }
+        }
+    }
+
+    fn sets(m: &[u64], s: &mut Sets) {
+        for q in 0..128 {
+            let at = POLICIES + 11 * q;
+            if m[at] == 0 {
+                continue;
+            }
+            let mut from = 0;
+            while let Some(c) = next_from(&s.containers, from) {
+                let slot = CONTAINERS + 9 * c;
+                if matches(m, at + 1, slot) {
+                    put(&mut s.selected[q], c);
+                }
+                if matches(m, at + 6, slot) {
+                    put(&mut s.allowed[q], c);
+                }
+                from = c + 1;
+            }
+        }
+    }
+
+    fn rows(s: &Sets, mut each: impl FnMut(usize, Row)) {
+        let chosen = union(&s.ingress, &s.selected);
+        for a in 0..256 {
+            each(a, by_rules(s, &s.egress, &s.ingress, chosen, a));
+        }
+    }
+}
