@@ -91,7 +91,10 @@ pub fn all() -> Vec<Registry> {
         |_| { let keys = labels(&mut r, 8, 64, 1); pick(&mut r, keys, 0) },
         || { let keys = labels(&mut s, 4, 64, 1); pick(&mut s, keys, 25) },
     );
-    vec![one, two, three, four, five, six]
+    // the same parts, and no label on any container: there the trial of the first release is quickest
+    let mut t = Random::new(2);
+    let seven = Registry::new("7", |_| vec![], || { let keys = labels(&mut t, 4, 64, 1); pick(&mut t, keys, 25) });
+    vec![one, two, three, four, five, six, seven]
 }
 
 /// 16 labels for which probing begins at one place, on containers and in parts: nine of them find a place, and parts match by both

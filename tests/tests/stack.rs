@@ -1,4 +1,4 @@
-//! No call takes more stack than docs/LINKING.md says.
+//! Every call takes less stack than docs/LINKING.md lets its callers count on.
 
 #[test]
 fn no_call_takes_eighty_kibibytes() {

@@ -273,11 +273,11 @@ fn lister(r: &Registry, containers: usize, policies: usize) -> Line {
     l
 }
 
-/// The bars of a call: to the same algorithms and to those of the first release. Registry 6 is made against the hash, and in 5 as
-/// many labels stand as there are places; lister has none yet.
+/// The bars of a call: to the same algorithms and to those of the first release. Registries 6 and 7 are made against the hash, and
+/// in 5 as many labels stand as there are places (docs/DECISIONS.md, 34); lister has none yet.
 fn bars(name: &str, registry: &str) -> (f64, f64) {
     let release = match name {
-        "rebuild" | "audit" => if registry == "6" { 1.0 } else { 0.15 },
+        "rebuild" | "audit" => if registry < "6" { 0.15 } else { 1.0 },
         "admit a container" => if registry < "5" { 0.15 } else { 1.0 },
         _ if name.contains("gress") => if registry < "5" { 0.15 } else { 1.0 },
         _ if name.starts_with("filling") => 1.0,
