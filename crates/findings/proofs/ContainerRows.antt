@@ -14,8 +14,8 @@ use Rattle.model.specs.Findings.{allReachable, allIsolated, userCross, systemIs
 use Rattle.model.specs.Findings as model
 use Rattle.store.specs.Layout.{rowAt}
 use Rattle.formed.specs.Registry.{modelIn, bitsIn, wellFormed}
-use Rattle.formed.proofs.Trials.{container-below}
-use Rattle.formed.proofs.FormedEntries.{formed-same-user}
+use Rattle.entries.proofs.Trials.{container-below}
+use Rattle.entries.proofs.FormedEntries.{formed-same-user}
 use Rattle.findings.specs.Rows.{shownAt, containersOf, zeroIf, columnIs, userWord, withUser}
 use Rattle.findings.proofs.Standing.{not-any, all-part}
 use Rattle.findings.proofs.Words.{matrix-row}

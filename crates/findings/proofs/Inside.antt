@@ -7,7 +7,7 @@ use native.Mathlib.Omega.{arith}
 use lib.Dec.{eqb}
 use borrow.Author.Tests.{eqb-true}
 use Rattle.model.specs.Findings.{shown, needless, irrelevance}
-use Rattle.formed.proofs.Trials.{container-below, policy-below}
+use Rattle.entries.proofs.Trials.{container-below, policy-below}
 use Rattle.findings.specs.Rows.{shownAt, containersOf, policiesOf}
 use Rattle.findings.proofs.Standing.{halves}
 use Rattle.findings.proofs.Walk.{Inside, Bounded}

@@ -7,4 +7,8 @@ pub mod KindRows
 pub mod ContainerRows
 pub mod PolicyRows
 pub mod Inside
+pub mod Members
+pub mod Putting
+pub mod Walked
+pub mod Listed
 pub mod Whole

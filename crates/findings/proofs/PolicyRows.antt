@@ -17,7 +17,7 @@ use Rattle.model.specs.Findings as model
 use Rattle.store.specs.Layout.{wordAt, policyStart, rowAt, selectedRow, allowedRow}
 use Rattle.formed.specs.Registry.{modelIn, bitsIn, wellFormed}
 use Rattle.store.proofs.Cases.{by-eqb}
-use Rattle.formed.proofs.Trials.{container-below}
+use Rattle.entries.proofs.Trials.{container-below}
 use Rattle.findings.specs.Rows.{shownAt, policiesOf, comparison, AtPolicy, Compared}
 use Rattle.findings.proofs.Standing.{halves, any-some, any-both, connected-sets, among-sets, some-part}
 use Rattle.findings.proofs.Words.{selected-row, allowed-row, selected-stands, allowed-stands, one-direction}

@@ -2,9 +2,9 @@
 use mathlib.Core.Path.{_≡_, refl, sym, ap, ap₂, _∙_, fun-ext}
 use mathlib.Core.Bool.{Bool, true, false, not, _&&_, _||_, and-or-distrib-right, and-eq-true-iff, false≢true}
 use mathlib.Core.List.{List, [], _∷_}
-use Prim.Native.Nat.{ℕ, _<_}
-use lib.Dec.{eqb}
-use borrow.Author.Tests.{eqb-true, eq-eqb}
+use Prim.Native.Nat.{ℕ, _≤_, _<_}
+use lib.Dec.{eqb, ltb}
+use borrow.Author.Tests.{eqb-true, eq-eqb, ltb-true, ltb-false, lt-ltb}
 use Rattle.bitrow.specs.Set.{meet, hasSome, part}
 use Rattle.bitrow.proofs.Tests.{same-test, hasSome-in, hasSome-found, part-all, part-in}
 use Rattle.model.specs.Table.{Table, any, all, stands, standing}
@@ -12,6 +12,14 @@ use Rattle.model.proofs.Lists.{or-right, elem, elem-standing}
 
 pub halves : (a b : Bool) → (a && b) ≡ true → (a ≡ true) × (b ≡ true)
 halves a b = and-eq-true-iff a b .0
+
+-- `(a < b) & (c < d)`
+module _ (a b c d : ℕ) where
+  pub both-less : (ltb a b && ltb c d) ≡ true → (a < b) × (c < d)
+  both-less e = let h = halves (ltb a b) (ltb c d) e in (ltb-true a b (h .0), ltb-true c d (h .1))
+
+  pub not-both-less : (ltb a b && ltb c d) ≡ false → a < b → d ≤ c
+  not-both-less e h = ltb-false c d (sym (ap (λ t. t && ltb c d) (lt-ltb a b h)) ∙ e)
 
 -- ---- lists
 

@@ -1,35 +1,33 @@
 -- The walk, whatever the kinds are: the order of three numbers as the order of one. Assumes nothing.
 use mathlib.Core.Path.{_≡_}
 use mathlib.Core.Bool.{Bool, true, false, _&&_, _||_}
-use Prim.Native.Nat.{ℕ, _+_, _*_, _≤_, _<_}
+use Prim.Native.Nat.{ℕ, suc, _+_, _≤_, _<_}
 use native.Mathlib.Decide.{decLt, ℕ-discrete}
 use native.Mathlib.Omega.{arith}
 use lib.Dec.{eqb, ltb}
 use borrow.Author.Tests.{eq-eqb, ne-eqb, lt-ltb, le-ltb}
-use Rattle.bitrow.specs.Set.{Lowest}
 use Rattle.model.specs.declared.Finding.{Finding}
-use Rattle.model.specs.Findings.{finding, after, placeOf}
+use Rattle.model.specs.Findings.{finding, findingCode, after, placeOf}
 use Rattle.model.proofs.Next.{Least, NoneAfter}
 use Rattle.findings.specs.Steps.{Place}
 
 -- ---- three numbers as one, where those of a and b are below 65536
 
 abbrev pub rank : ℕ → ℕ → ℕ → ℕ
-rank k a b = k * 4294967296 + a * 65536 + b
+rank k a b = findingCode (finding k a b)
 
-abbrev rankOf : Finding → ℕ
-rankOf g = rank (g .kind) (g .a) (g .b)
+abbrev pub rankOf : Place → ℕ
+rankOf p = rank (p .kind) (p .a) (p .b)
 
+-- three numbers that a cursor can hold
 pub record Sized (c : Place) : Type 0 where
+  pub smallKind : c .kind < 65536
   pub smallA : c .a < 65536
   pub smallB : c .b < 65536
 
 module _ (c : Place) (g : Finding) (s : Sized c) (t : Sized (placeOf g)) where
-  abbrev rankAt : ℕ
-  rankAt = rank (c .kind) (c .a) (c .b)
-
-  after-lt : rankAt < rankOf g → after c g ≡ true
-  unfolding after
+  after-lt : rankOf c < findingCode g → after c g ≡ true
+  unfolding after findingCode
   after-lt h = go (decLt (c .kind) (g .kind)) (decLt (c .a) (g .a))
     where
       go : Dec (c .kind < g .kind) → Dec (c .a < g .a)
@@ -43,8 +41,8 @@ module _ (c : Place) (g : Finding) (s : Sized c) (t : Sized (placeOf g)) where
           let d : c .a ≡ g .a = omega (arith, s .smallA, s .smallB, t .smallA, t .smallB) in
           rw (le-ltb (c .kind) (g .kind) (omega arith), eq-eqb (c .kind) (g .kind) e, le-ltb (c .a) (g .a) (omega arith), eq-eqb (c .a) (g .a) d, lt-ltb (c .b) (g .b) (omega arith))
 
-  after-ge : rankOf g ≤ rankAt → after c g ≡ false
-  unfolding after
+  after-ge : findingCode g ≤ rankOf c → after c g ≡ false
+  unfolding after findingCode
   after-ge h = go (ℕ-discrete (c .kind) (g .kind)) (ℕ-discrete (c .a) (g .a))
     where
       go : Dec (c .kind ≡ g .kind) → Dec (c .a ≡ g .a)
@@ -56,10 +54,10 @@ module _ (c : Place) (g : Finding) (s : Sized c) (t : Sized (placeOf g)) where
       go (yes p) (yes q) =
           rw (le-ltb (c .kind) (g .kind) (omega arith), eq-eqb (c .kind) (g .kind) p, le-ltb (c .a) (g .a) (omega arith), eq-eqb (c .a) (g .a) q, le-ltb (c .b) (g .b) (omega arith))
 
-  lt-after : after c g ≡ true → rankAt < rankOf g
-  lt-after e = go (decLt rankAt (rankOf g))
+  pub lt-after : after c g ≡ true → rankOf c < findingCode g
+  lt-after e = go (decLt (rankOf c) (findingCode g))
     where
-      go : Dec (rankAt < rankOf g) → rankAt < rankOf g
+      go : Dec (rankOf c < findingCode g) → rankOf c < findingCode g
       go (yes p) = p
       go (no n) = let x : after c g ≡ false = after-ge (omega arith) in let z : _≡_ {A = ℕ} 0 1 = cc in absurd (omega arith)
 
@@ -82,65 +80,71 @@ pub record Come (T : ℕ → ℕ → ℕ → Bool) (p : Place) (k a from : ℕ) 
   pub shortA : a ≤ 65536
   pub shortB : from ≤ 65536
   pub far : p .kind ≤ k
-  pub past : rank (p .kind) (p .a) (p .b) < rank k a from
-  pub left : (x y z : ℕ) → T x y z ≡ true → rank (p .kind) (p .a) (p .b) < rank x y z → rank k a from ≤ rank x y z
+  pub past : rankOf p < rank k a from
+  pub left : (x y z : ℕ) → T x y z ≡ true → rankOf p < rank x y z → rank k a from ≤ rank x y z
+
+module _ (T : ℕ → ℕ → ℕ → Bool) (B : Bounded T) where
+  pub sized-there : (g : Finding) → thereIn T g ≡ true → Sized (placeOf g)
+  sized-there g e =
+      let i = B (g .kind) (g .a) (g .b) e in
+      record { smallKind = omega (arith, i .high); smallA = omega (arith, i .inA); smallB = omega (arith, i .inB) }
 
 module _ (T : ℕ → ℕ → ℕ → Bool) (B : Bounded T) (p : Place) (s : Sized p) where
   sized : (g : Finding) → thereIn T g ≡ true → Sized (placeOf g)
-  sized g e = let i = B (g .kind) (g .a) (g .b) e in record { smallA = omega (arith, i .inA); smallB = omega (arith, i .inB) }
+  sized = sized-there T B
 
   pub come-start : Come T p (p .kind) (p .a) (p .b + 1)
+  unfolding findingCode
   come-start = record { shortA = omega (arith, s .smallA); shortB = omega (arith, s .smallB); far = omega arith; past = omega arith; left = λ x y z t h. omega arith }
 
-  -- the row has one: the lowest of it from `from` on is the first after p
-  pub come-found : (k a from b : ℕ) → Come T p k a from → Lowest (T k a) from 256 b → Least (thereIn T) p (finding k a b)
-  come-found k a from b c l = record {
-    is = l .there;
-    later = after-lt p (finding k a b) s (sized (finding k a b) (l .there)) (omega (arith, c .past, l .from));
-    least = λ g e d. after-ge (placeOf g) (finding k a b) (sized g e) (sized (finding k a b) (l .there)) (go g e (c .left (g .kind) (g .a) (g .b) e (lt-after p g s (sized g e) d)) (decLt (rankOf g) (rank k a b)));
-  }
-    where
-      go : (g : Finding) → thereIn T g ≡ true → rank k a from ≤ rankOf g → Dec (rankOf g < rank k a b) → rank k a b ≤ rankOf g
-      go g e h (no n) = omega arith
-      go g e h (yes q) =
-          let i = B (g .kind) (g .a) (g .b) e in
-          let j = B k a b (l .there) in
-          let ka = i .inA in
-          let kb = i .inB in
-          let ja = j .inA in
-          let jb = j .inB in
-          let ek : g .kind ≡ k = omega arith in
-          let ea : g .a ≡ a = omega arith in
-          let x : T k a (g .b) ≡ false = l .before (g .b) (omega arith) (omega arith) in
-          let y : T k a (g .b) ≡ true = rw (ek, ea) at e in
-          let z : _≡_ {A = ℕ} 0 1 = cc in
-          absurd (omega arith)
+  -- the row has `from`: that is the first after p
+  pub come-found : (k a from : ℕ) → Come T p k a from → T k a from ≡ true → Least (thereIn T) p (finding k a from)
+  come-found k a from c t =
+      let g = finding k a from in
+      record {
+        is = t;
+        later = after-lt p g s (sized g t) (c .past);
+        least = λ h e d. after-ge (placeOf h) g (sized h e) (sized g t) (c .left (h .kind) (h .a) (h .b) e (lt-after p h s (sized h e) d));
+      }
 
-  -- the row has none from `from` on
-  pub come-row : (k a from : ℕ) → Come T p k a from → a < 256 → ((b : ℕ) → from ≤ b → b < 256 → T k a b ≡ false) → Come T p k (a + 1) 0
-  come-row k a from c h none-left = record {
-    shortA = omega arith;
+  -- the row has not `from`
+  pub come-skip : (k a from : ℕ) → Come T p k a from → a < 256 → from < 256 → T k a from ≡ false → Come T p k a (suc from)
+  unfolding findingCode
+  come-skip k a from c h l f = record {
+    shortA = c .shortA;
     shortB = omega arith;
     far = c .far;
-    past = omega (arith, c .past, c .shortB);
-    left = λ x y z e q. go x y z e (c .left x y z e q) (decLt (rank x y z) (rank k (a + 1) 0));
+    past = omega (arith, c .past);
+    left = λ x y z e q. go x y z e (c .left x y z e q) (decLt (rank k a from) (rank x y z));
   }
     where
-      go : (x y z : ℕ) → T x y z ≡ true → rank k a from ≤ rank x y z → Dec (rank x y z < rank k (a + 1) 0) → rank k (a + 1) 0 ≤ rank x y z
-      go x y z e q (no m) = omega arith
-      go x y z e q (yes r) =
+      go : (x y z : ℕ) → T x y z ≡ true → rank k a from ≤ rank x y z → Dec (rank k a from < rank x y z) → rank k a (suc from) ≤ rank x y z
+      go x y z e q (yes m) = omega arith
+      go x y z e q (no m) =
           let i = B x y z e in
           let ka = i .inA in
           let kb = i .inB in
           let ek : x ≡ k = omega arith in
           let ea : y ≡ a = omega arith in
-          let u : T k a z ≡ false = none-left z (omega arith) kb in
-          let v : T k a z ≡ true = rw (ek, ea) at e in
+          let eb : z ≡ from = omega arith in
+          let t : T k a from ≡ true = rw (ek, ea, eb) at e in
           let w : _≡_ {A = ℕ} 0 1 = cc in
           absurd (omega arith)
 
+  -- the row is at its end
+  pub come-row : (k a from : ℕ) → Come T p k a from → a < 256 → 256 ≤ from → Come T p k (a + 1) 0
+  unfolding findingCode
+  come-row k a from c h l = record {
+    shortA = omega arith;
+    shortB = omega arith;
+    far = c .far;
+    past = omega (arith, c .past, c .shortB);
+    left = λ x y z e q. let i = B x y z e in let ka = i .inA in let kb = i .inB in let u = c .left x y z e q in omega arith;
+  }
+
   -- no row of the kind is left: kind 0, or all 256 passed
   pub come-kind : (k a from : ℕ) → Come T p k a from → ((0 < k) → 256 ≤ a) → Come T p (k + 1) 0 0
+  unfolding findingCode
   come-kind k a from c h = record {
     shortA = omega arith;
     shortB = omega arith;
@@ -155,9 +159,10 @@ module _ (T : ℕ → ℕ → ℕ → Bool) (B : Bounded T) (p : Place) (s : Siz
 
   -- no kind is left
   pub come-end : (k a from : ℕ) → Come T p k a from → 8 ≤ k → NoneAfter (thereIn T) p
-  come-end k a from c h g e = after-ge p g s (sized g e) (go (decLt (rank (p .kind) (p .a) (p .b)) (rankOf g)))
+  unfolding findingCode
+  come-end k a from c h g e = after-ge p g s (sized g e) (go (decLt (rankOf p) (findingCode g)))
     where
-      go : Dec (rank (p .kind) (p .a) (p .b) < rankOf g) → rankOf g ≤ rank (p .kind) (p .a) (p .b)
+      go : Dec (rankOf p < findingCode g) → findingCode g ≤ rankOf p
       go (no n) = omega arith
       go (yes q) =
           let i = B (g .kind) (g .a) (g .b) e in

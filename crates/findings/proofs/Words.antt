@@ -22,8 +22,8 @@ use Rattle.formed.proofs.Acceptable.{registry-bounded}
 use Rattle.formed.proofs.Formed.{formed-memory}
 use Rattle.store.proofs.Carried.{row-bit}
 use Rattle.formed.proofs.Reading.{matrix-in, selected-in, allowed-in, policy-stands, formed-direction, formed-whole, formed-settings}
-use Rattle.formed.proofs.Trials.{policy-at, policy-below, container-below}
-use Rattle.formed.proofs.FormedEntries.{formed-system}
+use Rattle.entries.proofs.Trials.{policy-at, policy-below, container-below}
+use Rattle.entries.proofs.FormedEntries.{formed-system}
 use Rattle.findings.specs.Rows.{containersOf, policiesOf, columnIs, userWord, withUser, AtContainer, AtPolicy}
 use Rattle.findings.proofs.Standing.{halves}
 

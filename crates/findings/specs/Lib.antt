@@ -1,3 +1,4 @@
 -- What the contracts of `findings` cite.
 pub mod Steps
 pub mod Rows
+pub mod Listing

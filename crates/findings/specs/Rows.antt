@@ -12,7 +12,7 @@ use Rattle.model.specs.Findings.{finding, shown, shadow, conflict}
 use Rattle.store.specs.Layout.{Whole, wordAt, containerStart}
 use Rattle.formed.specs.Words.{partIn}
 use Rattle.formed.specs.Registry.{modelIn, bitsIn, wellFormed}
-use Rattle.formed.specs.Entries.{wordUnder}
+use Rattle.entries.specs.Entries.{wordUnder}
 
 -- by the entries and the stored bits that a memory says
 unfoldable pub shownAt : List ℕ → ℕ → ℕ → ℕ → Bool

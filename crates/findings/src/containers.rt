@@ -67,7 +67,7 @@ fn same_user(memory: &[u64], set: [u64; 4], word: u64) -> [u64; 4]
             return chosen;
         };
         from = c + 1;
-        if formed::entries::word_under(memory, store::CONTAINERS + 9 * c, key) == word {
+        if entries::word_under(memory, store::CONTAINERS + 9 * c, key) == word {
             let next = bitrow::with(chosen, c);
             chosen = next;
         }
@@ -81,7 +81,7 @@ fn user_cross(memory: &[u64], containers: [u64; 4], a: usize) -> [u64; 4]
 {
     let reached = store::row_at(memory, a);
     let others = bitrow::without(bitrow::both(containers, reached), a);
-    let word = formed::entries::word_under(memory, store::CONTAINERS + 9 * a, memory[0]);
+    let word = entries::word_under(memory, store::CONTAINERS + 9 * a, memory[0]);
     if word == 0 {
         return others;
     }
@@ -98,7 +98,7 @@ fn system_isolation(memory: &[u64], containers: [u64; 4], a: usize) -> [u64; 4]
         return bitrow::none();
     }
     let word = key * 65536 + memory[2];
-    if !formed::entries::carries(memory, store::CONTAINERS + 9 * a, word) {
+    if !entries::carries(memory, store::CONTAINERS + 9 * a, word) {
         return bitrow::none();
     }
     let reached = store::row_at(memory, a);

@@ -1,17 +1,20 @@
-// The next finding: the first after any three numbers, by the entries and the stored bits of a memory.
+// The findings after any three numbers, by the entries and the stored bits of a memory: as many as a list holds, or the next one.
 ghost use mathlib.Core.Path.{_≡_};
 ghost use mathlib.Core.Bool.{true};
-ghost use mathlib.Core.Option.{some};
+ghost use mathlib.Core.List.{map};
 ghost use Prim.Native.Nat.{_<_};
+ghost use lib.ListN.{length};
 ghost use Rattle.bitrow.specs.Bit.{bitAt};
-ghost use Rattle.model.specs.Findings.{finding, nextAfter};
+ghost use Rattle.buffer.specs.Buffer.{Puts};
+ghost use Rattle.model.specs.Findings.{nextAfter, walk, moved, findingCode};
 ghost use Rattle.formed.specs.Registry.{modelIn, bitsIn, wellFormed};
 ghost use Rattle.findings.specs.Steps.{stepOf, placeOf};
 ghost use Rattle.findings.specs.Rows.{shownAt, containersOf, policiesOf};
-use bitrow::Found;
+ghost use Rattle.findings.specs.Listing.{placeAt};
 use model::Finding;
 
 mod containers;
+mod listing;
 mod policies;
 
 // A place in the list of findings: any three numbers.
@@ -25,6 +28,12 @@ pub struct Cursor {
 pub enum Step {
     Found(Finding, Cursor),
     Done,
+}
+
+// How many findings were put, and the cursor moved to the last of them.
+pub struct Put {
+    pub count: usize,
+    pub cursor: Cursor,
 }
 
 // The findings of one kind at a, as the row of all b.
@@ -44,57 +53,73 @@ fn row_of(
     policies::row_of(memory, policies, kind, a)
 }
 
-fn found(kind: usize, a: usize, b: usize) -> Step
-    requires { ⌜ (kind < 8) × (a < 256) × (b < 256) ⌝ }
-    ensures { λ r. ⌜ r ≡ stepOf (some (finding kind a b)) ⌝ }
+// The cursor at the finding whose number this is.
+fn cursor_at(code: u64) -> Cursor
+    requires { ⌜ code < 281474976710656 ⌝ }
+    ensures { λ r. ⌜ placeOf r ≡ placeAt code ⌝ }
 {
-    let k = kind as u16;
-    let x = a as u16;
-    let y = b as u16;
-    Step::Found(
-        Finding {
-            kind: k,
-            a: x,
-            b: y,
-        },
-        Cursor {
-            kind: k,
-            a: x,
-            b: y,
-        },
-    )
+    Cursor {
+        kind: (code / 4294967296) as u16,
+        a: (code / 65536 % 65536) as u16,
+        b: (code % 65536) as u16,
+    }
 }
 
 impl Cursor {
-    // The first finding after the cursor's three numbers, whatever they are, and the cursor moved to it.
-    pub fn next(self, memory: &[u64]) -> Step
+    // The findings after the cursor's three numbers, whatever they are, as many as the list holds, each as one number.
+    pub fn list(self, memory: &[u64], list: &mut [u64]) -> Put
         requires { ⌜ wellFormed (now memory) ≡ true ⌝ }
-        ensures { λ r. ⌜ r ≡ stepOf (nextAfter (modelIn (now (memory .entry))) (bitsIn (now (memory .entry))) (placeOf self)) ⌝ }
+        ensures { λ r. ⌜ Puts (now (list .entry)) 0 (map findingCode (walk (nextAfter (modelIn (now (memory .entry))) (bitsIn (now (memory .entry)))) (length (now (list .entry))) (placeOf self))) (now (list .exit)) (r .count) ⌝ }
+        ensures { λ r. ⌜ placeOf (r .cursor) ≡ moved (placeOf self) (walk (nextAfter (modelIn (now (memory .entry))) (bitsIn (now (memory .entry)))) (length (now (list .entry))) (placeOf self)) ⌝ }
     {
         let containers = formed::containers_standing(memory);
         let policies = formed::policies_standing(memory);
         let mut kind = self.kind as usize;
         let mut a = self.a as usize;
-        let last = self.b as usize;
-        let mut from = last + 1;
-        while kind < 8 {
+        let mut from = self.b as usize + 1;
+        let mut at = 0;
+        while (kind < 8) & (at < list.len()) {
             if (0 < kind) & (a < 256) {
                 let row = row_of(memory, containers, policies, kind, a);
-                match bitrow::next_from(row, from) {
-                    Found::At(b) => {
-                        return found(kind, a, b);
-                    }
-                    Found::Nothing => {
-                        a += 1;
-                        from = 0;
-                    }
-                }
+                at = listing::put_row(list, at, kind, a, bitrow::both(row, bitrow::at_least(from)));
+                a += 1;
+                from = 0;
             } else {
                 kind += 1;
                 a = 0;
                 from = 0;
             }
         }
-        Step::Done
+        if at == 0 {
+            return Put {
+                count: at,
+                cursor: self,
+            };
+        }
+        Put {
+            count: at,
+            cursor: cursor_at(list[at - 1]),
+        }
+    }
+
+    // The first finding after the cursor's three numbers, and the cursor moved to it: a listing of one.
+    pub fn next(self, memory: &[u64]) -> Step
+        requires { ⌜ wellFormed (now memory) ≡ true ⌝ }
+        ensures { λ r. ⌜ r ≡ stepOf (nextAfter (modelIn (now (memory .entry))) (bitsIn (now (memory .entry))) (placeOf self)) ⌝ }
+    {
+        let mut list = [0u64; 1];
+        let put = self.list(memory, &mut list);
+        if put.count == 0 {
+            return Step::Done;
+        }
+        let cursor = put.cursor;
+        Step::Found(
+            Finding {
+                kind: cursor.kind,
+                a: cursor.a,
+                b: cursor.b,
+            },
+            cursor,
+        )
     }
 }

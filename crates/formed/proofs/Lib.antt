@@ -11,8 +11,5 @@ pub mod Standing
 pub mod Rows
 pub mod EntryTests
 pub mod TestsFormed
-pub mod PartLabels
-pub mod Trials
-pub mod Keys
-pub mod FreeSlots
-pub mod FormedEntries
+pub mod LabelLaws
+pub mod StoredLaws

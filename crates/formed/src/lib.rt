@@ -1,6 +1,4 @@
 // What a memory says, and whether it is well formed.
-pub mod entries;
-
 ghost use mathlib.Core.Path.{_≡_};
 ghost use Prim.Native.Nat.{_+_, _*_, _<_, _≤_};
 ghost use lib.ListN.{length};

@@ -18,7 +18,7 @@ use Rattle.block.specs.Reader.{settingsChecks, entryChecks, settingsIn, entryIn
 use Rattle.model.specs.Table.{Table, on, isFree, at, free, lowestFree}
 use Rattle.model.specs.Rules.{carries}
 use Rattle.model.specs.Model.{containerSlots, policySlots, Model, empty, withContainer, withPolicy, computedBits}
-use Rattle.model.specs.Calls.{Call, openWith, admit, removeContainer, removePolicy, askReaches, askUser, nextFinding, counts, rebuild, audit}
+use Rattle.model.specs.Calls.{Call, openWith, admit, removeContainer, removePolicy, askReaches, askUser, nextFinding, listFindings, counts, rebuild, audit}
 use Rattle.model.specs.Calls.{refusal, done, containerAt, policyAt, says, run}
 use Rattle.model.specs.ModelStep.{opening, placing, placingPolicy, admitting, removing, removingPolicy, asking, askingUser, modelStep}
 use Rattle.model.specs.Registry.{Registry, computed, consistent, FollowsRules, changeContainer, rebuilt}
@@ -178,6 +178,7 @@ module _ (m : Model) (sized : Sized m) where
       slot-step (computed m) (askUser c v) containerSlots (m .containers) (sized .containers) c refl
       ∙ ask-user-agrees v (ltb c containerSlots) (at (m .containers) c)
   step-agrees (nextFinding c) = refl
+  step-agrees (listFindings c n) = refl
   step-agrees counts = refl
   step-agrees rebuild = refl
   step-agrees audit = ap (λ t. (computed m, says t)) (computed-consistent m)
@@ -234,6 +235,7 @@ module _ (m : Model) (sized : Sized m) where
   sized-step (askReaches a b) = sized
   sized-step (askUser c v) = sized
   sized-step (nextFinding c) = sized
+  sized-step (listFindings c n) = sized
   sized-step counts = sized
   sized-step rebuild = sized
   sized-step audit = sized

@@ -18,8 +18,8 @@ use Rattle.model.specs.declared.Finding.{Finding}
 use Rattle.model.specs.Table.{isFree, at, free, lowestFree}
 use Rattle.model.specs.Model.{policySlots, Model}
 use Rattle.model.specs.Findings.{nextAfter}
-use Rattle.model.specs.Calls.{Call, openWith, admit, removeContainer, removePolicy, askReaches, askUser, nextFinding, counts, rebuild, audit}
-use Rattle.model.specs.Calls.{Answer, refusal, done, containerAt, policyAt, says, found, noFinding, counted, foundAnswer}
+use Rattle.model.specs.Calls.{Call, openWith, admit, removeContainer, removePolicy, askReaches, askUser, nextFinding, listFindings, counts, rebuild, audit}
+use Rattle.model.specs.Calls.{Answer, refusal, done, containerAt, policyAt, says, found, noFinding, findingsPut, counted, foundAnswer}
 use Rattle.model.specs.ModelStep.{modelStep}
 use Rattle.model.specs.Registry.{Registry, computed}
 use Rattle.model.specs.Refusals.{where0, beyond, slotChecks, noRoom, refusals, faultOf, Refuses}
@@ -133,6 +133,7 @@ meets-rise r (removePolicy q) = refl
 meets-rise r (askReaches a b) = refl
 meets-rise r (askUser c v) = refl
 meets-rise r (nextFinding c) = refl
+meets-rise r (listFindings c n) = refl
 meets-rise r counts = refl
 meets-rise r rebuild = refl
 meets-rise r audit = refl
@@ -147,6 +148,7 @@ isRefusal (policyAt q) = false
 isRefusal (says t) = false
 isRefusal (found g c) = false
 isRefusal noFinding = false
+isRefusal (findingsPut l c) = false
 isRefusal (counted c q p) = false
 
 -- a condition that gives no refusal does not hold
@@ -203,6 +205,7 @@ module _ (r : Registry) (sized : Sized (r .model)) where
   accepted-answers (askReaches a b) e = refl
   accepted-answers (askUser c v) e = refl
   accepted-answers (nextFinding c) e = said (nextAfter (r .model) (r .bits) c)
+  accepted-answers (listFindings c n) e = refl
   accepted-answers counts e = refl
   accepted-answers rebuild e = refl
   accepted-answers audit e = refl

@@ -1,16 +1,15 @@
 -- The calls, with their arguments, and what they answer. Assumes nothing.
 use mathlib.Core.Bool.{Bool}
-use mathlib.Core.List.{List, [], _∷_}
+use mathlib.Core.List.{List, [], _∷_, map}
 use mathlib.Core.Option.{Option, none, some}
 use Prim.Native.Nat.{ℕ}
 use Rattle.model.specs.declared.Finding.{Finding}
-use Rattle.model.specs.Findings.{Cursor}
+use Rattle.model.specs.Findings.{Cursor, placeOf, moved, findingCode}
 use Rattle.model.specs.declared.Refusal.{Refusal}
 use Rattle.model.specs.declared.Refusal.the-variants.{MemorySize, NotWellFormed, BlockLength, Checksum, Kind, Limit, Range, Order, Unused, BeyondTable, FreeSlot, TableFull}
-use Rattle.model.specs.Findings.{placeOf}
 
 -- "The calls are: open (a settings block), admit (a container or policy block), remove a container, remove a policy, ask
--- whether a reaches b, ask whether a container carries a value under the user key, next finding, counts, rebuild, and audit."
+-- whether a reaches b, ask whether a container carries a value under the user key, next finding, counts, rebuild, and audit." Later ones join.
 pub data Call : Type 0 where
   openWith : List ℕ → Call
   admit : List ℕ → Call
@@ -19,6 +18,8 @@ pub data Call : Type 0 where
   askReaches : ℕ → ℕ → Call
   askUser : ℕ → ℕ → Call
   nextFinding : Cursor → Call
+  -- the next findings after a cursor, into a list lent for so many numbers
+  listFindings : Cursor → ℕ → Call
   counts : Call
   rebuild : Call
   audit : Call
@@ -33,12 +34,30 @@ pub data Answer : Type 0 where
   -- "The place in the list is handed back with each finding."
   found : Finding → Cursor → Answer
   noFinding : Answer
+  -- the numbers put into the list that was lent, and the place to go on from
+  findingsPut : List ℕ → Cursor → Answer
   -- standing containers, standing policies, PAIRS
   counted : ℕ → ℕ → ℕ → Answer
 
 abbrev pub foundAnswer : Option Finding → Answer
 foundAnswer none = noFinding
 foundAnswer (some g) = found g (placeOf g)
+
+-- the findings after a cursor, each as one number
+abbrev pub findingsAnswer : Cursor → List Finding → Answer
+findingsAnswer c l = findingsPut (map findingCode l) (moved c l)
+
+-- What a call writes into another buffer that it is lent.
+abbrev pub written : Answer → List ℕ
+written (findingsPut l c) = l
+written (refusal n) = []
+written done = []
+written (containerAt c) = []
+written (policyAt q) = []
+written (says t) = []
+written (found g c) = []
+written noFinding = []
+written (counted c q n) = []
 
 -- document 01's number of each refusal
 abbrev pub refusalNumber : Refusal → ℕ

@@ -2,7 +2,7 @@
 use mathlib.Core.Bool.{Bool, not, _&&_, _||_, cond}
 use mathlib.Core.List.{List, [], _∷_, _++_}
 use mathlib.Core.Option.{Option, none, some}
-use Prim.Native.Nat.{ℕ, zero, suc, _+_}
+use Prim.Native.Nat.{ℕ, zero, suc, _+_, _*_}
 use lib.Dec.{eqb, ltb}
 use Rattle.model.specs.declared.Finding.{Finding}
 use Rattle.model.specs.Table.{any, all, count, first, on, at, stands, standing, below}
@@ -167,6 +167,15 @@ start = record { kind = 0; a = 0; b = 0 }
 abbrev pub walk : (Cursor → Option Finding) → ℕ → Cursor → List Finding
 walk step zero c = []
 walk step (suc n) c = elim (step c) [ none ↦ [] | some g ↦ g ∷ walk step n (placeOf g) ]
+
+-- the place that a walk from a cursor over these findings has come to
+abbrev pub moved : Cursor → List Finding → Cursor
+moved c [] = c
+moved c (g ∷ l) = moved (placeOf g) l
+
+-- a finding as one number: kind * 2^32 + a * 2^16 + b
+unfoldable pub findingCode : Finding → ℕ
+findingCode g = g .kind * 4294967296 + g .a * 65536 + g .b
 
 -- ---- counts
 

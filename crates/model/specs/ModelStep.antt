@@ -11,9 +11,9 @@ use Rattle.block.specs.Reader.{readSettings, readEntry}
 use Rattle.model.specs.Table.{at, lowestFree}
 use Rattle.model.specs.Rules.{carries}
 use Rattle.model.specs.Model.{containerSlots, policySlots, Model, empty, withContainer, withPolicy, computedBits}
-use Rattle.model.specs.Findings.{containersOf, policiesOf, nextAfter, pairs}
-use Rattle.model.specs.Calls.{Call, openWith, admit, removeContainer, removePolicy, askReaches, askUser, nextFinding, counts, rebuild, audit}
-use Rattle.model.specs.Calls.{Answer, refusal, done, containerAt, policyAt, says, counted, foundAnswer}
+use Rattle.model.specs.Findings.{containersOf, policiesOf, nextAfter, walk, pairs}
+use Rattle.model.specs.Calls.{Call, openWith, admit, removeContainer, removePolicy, askReaches, askUser, nextFinding, listFindings, counts, rebuild, audit}
+use Rattle.model.specs.Calls.{Answer, refusal, done, containerAt, policyAt, says, counted, foundAnswer, findingsAnswer}
 
 module _ (m : Model) where
   -- "Open sets new settings and empties all places."
@@ -67,6 +67,7 @@ modelStep m (askReaches a b) =
     (m, cond (ltb a containerSlots && ltb b containerSlots) (asking m a b (at (m .containers) a) (at (m .containers) b)) (refusal 10))
 modelStep m (askUser c v) = (m, cond (ltb c containerSlots) (askingUser m v (at (m .containers) c)) (refusal 10))
 modelStep m (nextFinding c) = (m, foundAnswer (nextAfter m (computedBits m) c))
+modelStep m (listFindings c n) = (m, findingsAnswer c (walk (nextAfter m (computedBits m)) n c))
 modelStep m counts = (m, counted (length (containersOf m)) (length (policiesOf m)) (pairs (computedBits m)))
 modelStep m rebuild = (m, done)
 modelStep m audit = (m, says true)

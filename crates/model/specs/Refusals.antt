@@ -13,7 +13,7 @@ use Rattle.block.specs.Reader.{settingsChecks, entryChecks, entryIn}
 use Rattle.model.specs.Table.{Table, free, full}
 use Rattle.model.specs.Model.{containerSlots, policySlots, Model}
 use Rattle.model.specs.Registry.{Registry}
-use Rattle.model.specs.Calls.{Call, openWith, admit, removeContainer, removePolicy, askReaches, askUser, nextFinding, counts, rebuild, audit}
+use Rattle.model.specs.Calls.{Call, openWith, admit, removeContainer, removePolicy, askReaches, askUser, nextFinding, listFindings, counts, rebuild, audit}
 
 -- a fault of no position in a block, where the condition holds
 abbrev pub where0 : Bool → Fault
@@ -45,6 +45,7 @@ refusals r (removePolicy q) = slotChecks policySlots (r .model .policies) q
 refusals r (askReaches a b) = pairChecks containerSlots (r .model .containers) a b
 refusals r (askUser c v) = slotChecks containerSlots (r .model .containers) c
 refusals r (nextFinding c) = []
+refusals r (listFindings c n) = []
 refusals r counts = []
 refusals r rebuild = []
 refusals r audit = []

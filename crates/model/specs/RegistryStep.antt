@@ -7,9 +7,9 @@ use Rattle.block.specs.Refusal.{Refusal, firstRefusal}
 use Rattle.block.specs.Reader.{settingsIn, entryIn}
 use Rattle.model.specs.Table.{on, at, lowestFree}
 use Rattle.model.specs.Rules.{carries}
-use Rattle.model.specs.Findings.{containersOf, policiesOf, nextAfter, pairs}
-use Rattle.model.specs.Calls.{Call, openWith, admit, removeContainer, removePolicy, askReaches, askUser, nextFinding, counts, rebuild, audit}
-use Rattle.model.specs.Calls.{Answer, refusal, done, containerAt, policyAt, says, counted, foundAnswer}
+use Rattle.model.specs.Findings.{containersOf, policiesOf, nextAfter, walk, pairs}
+use Rattle.model.specs.Calls.{Call, openWith, admit, removeContainer, removePolicy, askReaches, askUser, nextFinding, listFindings, counts, rebuild, audit}
+use Rattle.model.specs.Calls.{Answer, refusal, done, containerAt, policyAt, says, counted, foundAnswer, findingsAnswer}
 use Rattle.model.specs.Registry.{Registry, consistent, changeContainer, changePolicy, opened, rebuilt}
 use Rattle.model.specs.Refusals.{refusals}
 
@@ -41,6 +41,7 @@ module _ (r : Registry) where
   acceptedStep (askUser c v) =
       (r, says (on (λ x. carries x (record { key = r .model .settings .userKey; value = v })) (at (r .model .containers) c)))
   acceptedStep (nextFinding c) = (r, foundAnswer (nextAfter (r .model) (r .bits) c))
+  acceptedStep (listFindings c n) = (r, findingsAnswer c (walk (nextAfter (r .model) (r .bits)) n c))
   acceptedStep counts = (r, counted (length (containersOf (r .model))) (length (policiesOf (r .model))) (pairs (r .bits)))
   acceptedStep rebuild = (rebuilt r, done)
   acceptedStep audit = (r, says (consistent r))

@@ -1,6 +1,5 @@
 -- The laws of rows and columns by the rules.
 pub mod Unions
 pub mod Model
-pub mod Candidates
+pub mod SideLaws
 pub mod LineLaws
-pub mod LabelLaws

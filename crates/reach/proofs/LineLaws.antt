@@ -1,45 +1,29 @@
 -- Laws of lines gathered policy by policy. Assumes nothing.
-use mathlib.Core.Path.{_≡_, refl, sym, ap, ap₂, _∙_, fun-ext, subst}
+use mathlib.Core.Path.{_≡_, refl, sym, ap, ap₂, _∙_, subst}
 use mathlib.Core.Bool.{Bool, true, false, _&&_, _||_, cond, and-true, and-false, or-false}
 use mathlib.Core.List.{List, []}
 use Prim.Native.Nat.{ℕ, zero, suc, _+_, _-_, _*_, _/_, _%_, _^_, _≤_, _<_}
 use native.Mathlib.Decide.{ℕ-discrete, decLt}
 use native.Mathlib.Omega.{arith}
 use lib.Dec.{eqb, leb}
-use lib.ListN.{length, getD, set, replicate, length-set, length-replicate}
+use lib.ListN.{length, getD, set, length-set}
 use lib.Seq.{getD-set-same, getD-set-other}
 use borrow.Author.Tests.{le-leb, lt-leb, leb-true}
 use Rattle.bitrow.specs.Bit.{bit, bitAt, Row}
 use Rattle.bitrow.specs.Set.{nothing, meet, join, less, remove}
 use Rattle.bitrow.proofs.Words.{bit-zero, bit-below}
-use Rattle.bitrow.proofs.Rows.{zeros-row}
 use Rattle.bitrow.proofs.Sets.{at, meet-at, join-at, join-assoc, join-self, remove-there, remove-other}
 use Rattle.store.proofs.Cases.{by-eqb}
 use Rattle.formed.proofs.Tests.{both}
 use Rattle.block.specs.Entry.{ingress, egress}
 use Rattle.model.specs.Model.{containerSlots, policySlots, Model, matrixBit}
+use Rattle.sets.specs.Sets.{bits, Empty}
 use Rattle.reach.specs.declared.lines.Gathered.{Gathered}
-use Rattle.reach.specs.Lets.{bits, having, union, Picks, lets, letsBy}
-use Rattle.reach.specs.Sets.{Empty, directionSet}
+use Rattle.reach.specs.Lets.{having, union, Picks, lets, letsBy}
+use Rattle.reach.specs.Sides.{directionSet}
 use Rattle.reach.specs.Lines.{joinIf, meetIf, raised, Joined, LinesAre, Gathers}
 use Rattle.reach.proofs.Unions.{union-none, union-skip, union-take, lets-chosen, lets-free, lets-by, line-meet, line-free}
 use Rattle.reach.proofs.Model.{row-law}
-
--- ---- an array of empty rows, and what is past it
-
-empty-row : (n h : ℕ) → bits (replicate n (replicate 4 0)) h ≡ nothing
-unfolding bitAt nothing
-empty-row zero h = fun-ext (λ i. bit-zero (i % 64))
-empty-row (suc n) zero = zeros-row
-empty-row (suc n) (suc h) = empty-row n h
-
-four-words : (n q : ℕ) → q < n → length {A = ℕ} (getD (replicate n (replicate 4 0)) q []) ≡ 4
-four-words zero q l = absurd (omega arith)
-four-words (suc n) zero l = refl
-four-words (suc n) (suc q) l = four-words n q (omega arith)
-
-pub empty-rows : (n : ℕ) → Empty n (replicate n (replicate 4 0))
-empty-rows n = record { shape = record { size = length-replicate n (replicate 4 0); width = four-words n }; row = empty-row n }
 
 -- ---- a set joined to some rows
 

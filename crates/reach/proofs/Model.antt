@@ -15,9 +15,10 @@ use Rattle.model.specs.Table.{Table, any, on, at, stands}
 use Rattle.model.specs.Rules.{sameDirection, selects, allows, someSelects, someAllows}
 use Rattle.model.specs.Rules as rules
 use Rattle.model.specs.Model.{policySlots, Model, matrixBit, selectedBit, allowedBit}
-use Rattle.reach.specs.Lets.{bits, having, union, lets, line}
+use Rattle.sets.specs.Sets.{bits, RowsAre, SetsOf}
 use Rattle.reach.specs.declared.rules.Sides.{Sides}
-use Rattle.reach.specs.Sets.{RowsAre, SetsOf, SidesOf, directionSet, opposite, lineBit}
+use Rattle.reach.specs.Lets.{having, union, lets, line}
+use Rattle.reach.specs.Sides.{SidesOf, directionSet, opposite, lineBit}
 
 -- ---- some slot of a table, as some number below its length
 

@@ -2,15 +2,8 @@
 -- set that it allows. Assumes nothing.
 use mathlib.Core.Path.{_≡_}
 use mathlib.Core.Bool.{Bool, not, _&&_, _||_}
-use mathlib.Core.List.{List, []}
 use Prim.Native.Nat.{ℕ}
-use lib.ListN.{getD}
-use Rattle.bitrow.specs.Bit.{bitAt}
 use Rattle.bitrow.specs.Set.{some}
-
--- rows as sets
-abbrev pub bits : List (List ℕ) → ℕ → ℕ → Bool
-bits rows q = bitAt (getD rows q [])
 
 -- those of t whose set has a
 unfoldable pub having : (ℕ → Bool) → (ℕ → ℕ → Bool) → ℕ → ℕ → Bool

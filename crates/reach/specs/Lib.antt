@@ -1,5 +1,4 @@
 -- What the contracts of `reach` cite.
 pub mod Lets
-pub mod Sets
-pub mod Labels
+pub mod Sides
 pub mod Lines

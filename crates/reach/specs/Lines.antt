@@ -10,9 +10,10 @@ use Rattle.bitrow.specs.Set.{meet, join}
 use Rattle.block.specs.Entry.{ingress, egress}
 use Rattle.model.specs.Table.{stands}
 use Rattle.model.specs.Model.{containerSlots, policySlots, Model, matrixBit}
+use Rattle.sets.specs.Sets.{bits, SetsOf}
 use Rattle.reach.specs.declared.lines.Gathered.{Gathered}
-use Rattle.reach.specs.Lets.{bits, having, union}
-use Rattle.reach.specs.Sets.{SetsOf, directionSet}
+use Rattle.reach.specs.Lets.{having, union}
+use Rattle.reach.specs.Sides.{directionSet}
 
 -- s, with u joined if the test passes
 unfoldable pub joinIf : Bool → (ℕ → Bool) → (ℕ → Bool) → ℕ → Bool

@@ -1,5 +1,4 @@
-// Candidate sets by the entries, and a row and a column of the matrix by the written rules.
-pub mod labels;
+// A row and a column of the matrix by the written rules, from candidate sets.
 pub mod lines;
 pub mod rules;
-pub mod sets;
+pub mod sides;

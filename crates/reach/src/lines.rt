@@ -8,11 +8,10 @@ ghost use Rattle.bitrow.specs.Bit.{bit, bitAt};
 ghost use Rattle.model.specs.Table.{stands};
 ghost use Rattle.model.specs.Model.{containerSlots};
 ghost use Rattle.formed.specs.Registry.{modelIn, wellFormed};
-ghost use Rattle.reach.specs.Lets.{bits};
-ghost use Rattle.reach.specs.Sets.{Empty, KnownSets};
+ghost use Rattle.sets.specs.Sets.{bits, Empty, KnownSets};
 ghost use Rattle.reach.specs.Lines.{raised, meetIf, Joined, LinesAre, Gathers, LineFrom};
 use crate::rules;
-use crate::sets;
+use crate::sides;
 
 // A set joined to the row of each of some containers, of which `word` has the 64 from `first` on.
 fn join_word(lines: &mut [[u64; 4]; 256], word: u64, first: usize, whom: [u64; 4])
@@ -91,7 +90,7 @@ pub fn gather(
     ensures { λ r. ⌜ Gathers (modelIn (now (memory .entry))) (bitAt some) r (now (selected .exit)) (now (allowed .exit)) (now (outs .exit)) (now (backs .exit)) ⌝ }
 {
     sets::fill_sets(memory, standing, known, selected, allowed);
-    let sides = sets::sides_of(memory, standing, selected, 2);
+    let sides = sides::sides_of(memory, standing, selected, 2);
     let out = sides.out;
     let back = sides.back;
     join_all(outs, out, selected, allowed, some);

@@ -3,7 +3,8 @@ ghost use mathlib.Core.Path.{_≡_};
 ghost use Prim.Native.Nat.{_<_};
 ghost use Rattle.bitrow.specs.Bit.{bitAt};
 ghost use Rattle.bitrow.specs.Set.{meet};
-ghost use Rattle.reach.specs.Lets.{bits, union, Picks, lets, letsBy, line};
+ghost use Rattle.sets.specs.Sets.{bits};
+ghost use Rattle.reach.specs.Lets.{union, Picks, lets, letsBy, line};
 
 // Of some policies, those that pass a test: whether there are any, and the union of their rows.
 struct Picked {

@@ -1,13 +1,14 @@
 -- Each call's `answerOf` is injective: no two cases of an answer say the same; and a call that is refused, or that asks, leaves
 -- every word as it was. Assumes nothing.
-use mathlib.Core.Path.{_≡_, refl, sym, ap, _∙_}
+use mathlib.Core.Path.{_≡_, refl, sym, ap, ap₂, _∙_}
 use mathlib.Core.Bool.{Bool, false, cond}
 use mathlib.Core.List.{List}
 use Prim.Native.Nat.{ℕ}
 use lib.Dec.{eqb}
+use Rattle.buffer.specs.Buffer.{overwritten}
 use Rattle.model.specs.declared.Refusal.{Refusal}
 use Rattle.model.specs.declared.Refusal.the-variants.{MemorySize, NotWellFormed, BlockLength, Checksum, Kind, Limit, Range, Order, Unused, BeyondTable, FreeSlot, TableFull}
-use Rattle.model.specs.Calls.{Call, Answer, refusal, done, containerAt, policyAt, says, found, noFinding, counted, refusalNumber}
+use Rattle.model.specs.Calls.{Call, Answer, refusal, done, containerAt, policyAt, says, found, noFinding, findingsPut, counted, written, refusalNumber}
 use Rattle.steps.specs.MemoryStep.{changes, memoryStep}
 use Rattle.steps.proofs.Refused.{refused-unchanged, query-unchanged}
 use Rattle.registry.specs.declared.Opened.{Opened}
@@ -22,13 +23,15 @@ use Rattle.registry.specs.declared.Carried.{Carried}
 use Rattle.registry.specs.declared.Carried.the-variants as carried
 use Rattle.registry.specs.declared.NextFinding.{NextFinding}
 use Rattle.registry.specs.declared.NextFinding.the-variants as next
+use Rattle.registry.specs.declared.FindingsPut.{FindingsPut}
+use Rattle.registry.specs.declared.FindingsPut.the-variants as put
 use Rattle.registry.specs.declared.Counted.{Counted}
 use Rattle.registry.specs.declared.Counted.the-variants as counts
 use Rattle.registry.specs.declared.Rebuilt.{Rebuilt}
 use Rattle.registry.specs.declared.Rebuilt.the-variants as rebuilt
 use Rattle.registry.specs.declared.Audited.{Audited}
 use Rattle.registry.specs.declared.Audited.the-variants as audited
-use Rattle.registry.specs.Answers.{openedAnswer, admittedAnswer, removedAnswer, reachedAnswer, carriedAnswer, nextAnswer, countedAnswer, rebuiltAnswer, auditedAnswer}
+use Rattle.registry.specs.Answers.{openedAnswer, admittedAnswer, removedAnswer, reachedAnswer, carriedAnswer, nextAnswer, putAnswer, countPut, countedAnswer, rebuiltAnswer, auditedAnswer}
 
 -- what is read back from what was said, by a function: then no two are said alike
 module _ {A B : Type 0} (f : A → B) (g : B → A) (back : (x : A) → g (f x) ≡ x) where
@@ -81,6 +84,7 @@ module _ {A : Type 0} (refused : Refusal → A) (other : A) where
   endedAt (says t) = other
   endedAt (found g c) = other
   endedAt noFinding = other
+  endedAt (findingsPut l c) = other
   endedAt (counted a b n) = other
 
 module _ {A : Type 0} (refused : Refusal → A) (said : Bool → A) where
@@ -93,6 +97,7 @@ module _ {A : Type 0} (refused : Refusal → A) (said : Bool → A) where
   saidAt (policyAt q) = said false
   saidAt (found g c) = said false
   saidAt noFinding = said false
+  saidAt (findingsPut l c) = said false
   saidAt (counted a b n) = said false
 
 admittedAt : Answer → Admitted
@@ -103,6 +108,7 @@ admittedAt done = admitted.Refused MemorySize
 admittedAt (says t) = admitted.Refused MemorySize
 admittedAt (found g c) = admitted.Refused MemorySize
 admittedAt noFinding = admitted.Refused MemorySize
+admittedAt (findingsPut l c) = admitted.Refused MemorySize
 admittedAt (counted a b n) = admitted.Refused MemorySize
 
 countedAt : Answer → Counted
@@ -114,6 +120,7 @@ countedAt (policyAt q) = counts.Refused MemorySize
 countedAt (says t) = counts.Refused MemorySize
 countedAt (found g c) = counts.Refused MemorySize
 countedAt noFinding = counts.Refused MemorySize
+countedAt (findingsPut l c) = counts.Refused MemorySize
 
 nextAt : Answer → NextFinding
 nextAt (refusal n) = next.Refused (refusalAt n)
@@ -123,7 +130,19 @@ nextAt done = next.Nothing
 nextAt (containerAt c) = next.Nothing
 nextAt (policyAt q) = next.Nothing
 nextAt (says t) = next.Nothing
+nextAt (findingsPut l c) = next.Nothing
 nextAt (counted a b n) = next.Nothing
+
+putAt : Answer → ℕ → FindingsPut
+putAt (refusal n) k = put.Refused (refusalAt n)
+putAt (findingsPut l c) k = put.Findings k (record { kind = c .kind; a = c .a; b = c .b })
+putAt done k = put.Refused MemorySize
+putAt (containerAt c) k = put.Refused MemorySize
+putAt (policyAt q) k = put.Refused MemorySize
+putAt (says t) k = put.Refused MemorySize
+putAt (found g c) k = put.Refused MemorySize
+putAt noFinding k = put.Refused MemorySize
+putAt (counted a b n) k = put.Refused MemorySize
 
 pub opened-injective : (x y : Opened) → openedAnswer x ≡ openedAnswer y → x ≡ y
 unfolding endedAt
@@ -191,6 +210,15 @@ next-injective = told-apart nextAnswer nextAt back
     back (next.Found g c) = refl
     back next.Nothing = refl
 
+-- whatever the lists that the findings were put into
+pub put-injective : (x y : FindingsPut) (d e : List ℕ) → putAnswer x d ≡ putAnswer y e → countPut x ≡ countPut y → x ≡ y
+unfolding putAt
+put-injective x y d e h k = sym (back x d) ∙ ap₂ putAt h k ∙ back y e
+  where
+    back : (x : FindingsPut) (e : List ℕ) → putAt (putAnswer x e) (countPut x) ≡ x
+    back (put.Refused r) e = ap put.Refused (refusal-back r)
+    back (put.Findings n c) e = refl
+
 pub counted-injective : (x y : Counted) → countedAnswer x ≡ countedAnswer y → x ≡ y
 unfolding countedAt
 counted-injective = told-apart countedAnswer countedAt back
@@ -206,6 +234,11 @@ counted-injective = told-apart countedAnswer countedAt back
 module _ (m m′ : List ℕ) (a : Answer) (call : Call) (promise : (m′, a) ≡ memoryStep m call) where
   pub refused-leaves : (n : ℕ) → a ≡ refusal n → m′ ≡ m
   refused-leaves n e = ap (λ (p : List ℕ × Answer). p .0) promise ∙ refused-unchanged m call n (sym (ap (λ (p : List ℕ × Answer). p .1) promise) ∙ e)
+
+  -- so of a list that it was lent besides
+  pub refused-keeps : (d e : List ℕ) → e ≡ overwritten d (written (memoryStep m call .1)) → (n : ℕ) → a ≡ refusal n → e ≡ d
+  unfolding overwritten
+  refused-keeps d e h n r = h ∙ ap (λ x. overwritten d (written x)) (sym (ap (λ (p : List ℕ × Answer). p .1) promise) ∙ r)
 
   pub query-leaves : changes call ≡ false → m′ ≡ m
   query-leaves e = ap (λ (p : List ℕ × Answer). p .0) promise ∙ query-unchanged m call e

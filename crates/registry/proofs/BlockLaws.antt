@@ -25,16 +25,16 @@ use Rattle.model.specs.Registry.{opened}
 use Rattle.store.specs.Layout.{memoryWords, wordAt}
 use Rattle.formed.specs.Words.{settingsIn}
 use Rattle.formed.specs.Registry.{modelIn, image, wellFormed}
+use Rattle.formed.specs.Labels.{unpacked}
 use Rattle.steps.specs.MemoryStep.{memoryStep}
 use Rattle.steps.proofs.Outcomes.{open-refused, open-done, admit-refused}
+use Rattle.container_changes.specs.OneContainer.{SaysContainer}
+use Rattle.container_changes.proofs.ContainerLaws.{unpacked-is, says-container}
+use Rattle.policy_changes.specs.PolicyChange.{policyOf, PolicyWords, SaysPolicy}
+use Rattle.policy_changes.proofs.PolicyLaws.{policy-given, says-given}
 use Rattle.registry.specs.declared.Tested.{Tested}
 use Rattle.registry.specs.declared.Tested.the-variants.{Refused, Passed}
 use Rattle.registry.specs.Tests.{verdictTest}
-use Rattle.changes.specs.Labels.{unpacked}
-use Rattle.changes.specs.OneContainer.{SaysContainer}
-use Rattle.changes.specs.PolicyChange.{policyOf, PolicyWords, SaysPolicy}
-use Rattle.changes.proofs.ContainerLaws.{unpacked-is, says-container}
-use Rattle.changes.proofs.PolicyLaws.{policy-given, says-given}
 
 -- ---- a verdict's number
 

@@ -1,34 +1,42 @@
 -- The outcomes of the calls, as their functions return them. Assumes nothing.
-use mathlib.Core.Path.{_≡_, refl, sym, ap, _∙_}
+use mathlib.Core.Path.{_≡_, refl, sym, ap, ap₂, _∙_}
 use mathlib.Core.Bool.{Bool, true}
-use mathlib.Core.List.{List, [], _∷_}
+use mathlib.Core.List.{List, [], _∷_, map}
 use mathlib.Core.Option.{Option, none, some}
 use Prim.Native.Nat.{ℕ, suc, _<_}
 use native.Mathlib.Omega.{arith}
+use native.Mathlib.Nat.{zero-add}
 use lib.ListN.{length}
 use Rattle.block.specs.Entry.{Container, Policy, container, policy}
 use Rattle.block.specs.Refusal.{accepted}
 use Rattle.block.specs.Reader.{readEntry}
+use Rattle.buffer.specs.Buffer.{overwritten, Puts}
+use Rattle.buffer.proofs.BufferLaws.{puts-start, puts-taken}
 use Rattle.model.specs.declared.ContainerSlot.{ContainerSlot}
 use Rattle.model.specs.declared.PolicySlot.{PolicySlot}
 use Rattle.model.specs.Table.{Table, on, stands, next, lowestFree}
 use Rattle.model.specs.Model.{containerSlots, policySlots}
 use Rattle.model.specs.declared.Finding.{Finding}
-use Rattle.model.specs.Findings.{containersOf, policiesOf, nextAfter, pairs}
-use Rattle.model.specs.Calls.{admit, removeContainer, removePolicy, nextFinding, counts, rebuild, audit}
-use Rattle.model.specs.Calls.{Answer, refusal, done, containerAt, policyAt, says, found, noFinding, counted, foundAnswer}
+use Rattle.model.specs.declared.Refusal.{Refusal}
+use Rattle.model.specs.Findings.{containersOf, policiesOf, nextAfter, walk, moved, findingCode, pairs}
+use Rattle.model.specs.Calls.{admit, removeContainer, removePolicy, nextFinding, listFindings, counts, rebuild, audit}
+use Rattle.model.specs.Calls.{Answer, refusal, done, containerAt, policyAt, says, found, noFinding, findingsPut, counted, foundAnswer, written, refusalNumber}
 use Rattle.model.specs.Registry.{consistent, changeContainer, changePolicy, rebuilt}
 use Rattle.store.specs.Layout.{containerStart}
 use Rattle.formed.specs.Words.{partIn, policyAt as policyWordsAt}
 use Rattle.formed.specs.Registry.{modelIn, bitsIn, registryIn, image, wellFormed}
-use Rattle.formed.specs.Entries.{freeContainer, freePolicy}
-use Rattle.formed.specs.declared.entries.FreeContainer.the-variants as containers
-use Rattle.formed.specs.declared.entries.FreePolicy.the-variants as policies
+use Rattle.entries.specs.declared.FreeContainer.the-variants as containers
+use Rattle.entries.specs.declared.FreePolicy.the-variants as policies
+use Rattle.entries.specs.Entries.{freeContainer, freePolicy}
 use Rattle.steps.specs.MemoryStep.{memoryStep}
-use Rattle.steps.proofs.Outcomes.{sized-in, admit-container-full, admit-container-done, admit-policy-full, admit-policy-done, remove-done, remove-policy-done, next-answers, counts-answers, rebuild-done, audit-says}
+use Rattle.steps.proofs.Outcomes.{sized-in, admit-container-full, admit-container-done, admit-policy-full, admit-policy-done, remove-done, remove-policy-done, next-answers, findings-answers, counts-answers, rebuild-done, audit-says}
+use Rattle.findings.specs.declared.Cursor.{Cursor}
 use Rattle.findings.specs.declared.Step.{Step}
 use Rattle.findings.specs.declared.Step.the-variants as steps
 use Rattle.findings.specs.Steps.{Place, placeOf, stepOf}
+use Rattle.registry.specs.declared.FindingsPut.{FindingsPut}
+use Rattle.registry.specs.declared.FindingsPut.the-variants as put
+use Rattle.registry.specs.Answers.{putAnswer, countPut}
 use Rattle.registry.specs.declared.Tested.the-variants.{Passed}
 use Rattle.registry.specs.Admission.{containerTo, policyTo, containerAdmitted, policyAdmitted}
 use Rattle.registry.proofs.TestLaws.{containerTest, policyTest, container-passed, policy-passed}
@@ -48,7 +56,18 @@ abbrev pub stepAnswer : Step → Answer
 stepAnswer (steps.Found g c) = found g (placeOf c)
 stepAnswer steps.Done = noFinding
 
+-- what the call findings promises: of its answer, of how many it put, and of the list d, which it leaves as e
+abbrev Promised : List ℕ → Place → List ℕ → List ℕ → FindingsPut → Type 0
+Promised m p d e r =
+    let s = memoryStep m (listFindings p (length d)) in
+    ((m, putAnswer r e) ≡ s) × ((countPut r ≡ length (written (s .1))) × (e ≡ overwritten d (written (s .1))))
+
 module _ (m : List ℕ) where
+  pub findings-refused : (p : Place) (d : List ℕ) (r : Refusal) → memoryStep m (listFindings p (length d)) ≡ (m, refusal (refusalNumber r))
+      → Promised m p d d (put.Refused r)
+  unfolding overwritten
+  findings-refused p d r h = (sym h, (ap (λ s. length (written (s .1))) (sym h), ap (λ s. overwritten d (written (s .1))) (sym h)))
+
   pub container-slot-below : (c : ℕ) → lowestFree (modelIn m .containers) ≡ some c → c < containerSlots
   container-slot-below c e = let h = lowest-below (modelIn m .containers) c e in let s = sized-in m .containers in omega arith
 
@@ -137,6 +156,16 @@ module _ (m : List ℕ) where
         pick : (o : Option Finding) → _≡_ {A = List ℕ × Answer} (m, foundAnswer o) (m, stepAnswer (stepOf o))
         pick none = refl
         pick (some g) = refl
+
+    -- what was put into the list, and the place to go on from
+    pub findings-answer : (p : Place) {d e : List ℕ} {n : ℕ} {c : Cursor}
+        → Puts d 0 (map findingCode (walk (nextAfter (modelIn m) (bitsIn m)) (length d) p)) e n
+        → placeOf c ≡ moved p (walk (nextAfter (modelIn m) (bitsIn m)) (length d) p) → Promised m p d e (put.Findings n c)
+    findings-answer p {d} {e} {n} {c} g q =
+        let h = findings-answers m formed p (length d) in (
+          ap₂ (λ l c. (m, findingsPut l c)) (puts-taken g) q ∙ sym h,
+          (g .stops ∙ zero-add _ ∙ ap (λ s. length (written (s .1))) (sym h), puts-start g ∙ ap (λ s. overwritten d (written (s .1))) (sym h)),
+        )
 
     pub rebuild-answer : (m′ : List ℕ) → m′ ≡ image (rebuilt (registryIn m)) → memoryStep m rebuild ≡ (m′, done)
     unfolding rebuilt registryIn

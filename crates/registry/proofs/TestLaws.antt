@@ -21,11 +21,11 @@ use Rattle.model.proofs.Tables.{free-at}
 use Rattle.store.specs.Layout.{memoryWords, containersStart, containerWords, containerStart, policiesStart, policyWords, policyStart, rowStart, wordAt, rowBit}
 use Rattle.formed.specs.Words.{labelIn, partIn, settingsIn, containerIn, policyAt, policyIn}
 use Rattle.formed.specs.Registry.{modelIn, registryIn, wellFormed}
-use Rattle.formed.specs.Entries.{SlotsWithin, freeIn, wordUnder}
 use Rattle.formed.proofs.Reading.{container-slot, policy-slot, container-taken, policy-taken, matrix-in, formed-whole}
-use Rattle.formed.proofs.PartLabels.{label-of}
-use Rattle.formed.proofs.Keys.{carries-word}
-use Rattle.formed.proofs.FormedEntries.{formed-labels}
+use Rattle.entries.specs.Entries.{SlotsWithin, freeIn, wordUnder}
+use Rattle.entries.proofs.PartLabels.{label-of}
+use Rattle.entries.proofs.Keys.{carries-word}
+use Rattle.entries.proofs.FormedEntries.{formed-labels}
 use Rattle.steps.specs.MemoryStep.{memoryStep}
 use Rattle.steps.proofs.Outcomes.{opens, step-size, step-formed, step-refused, sized-in, reaches-says, user-says}
 use Rattle.registry.specs.declared.Tested.{Tested}

@@ -1,5 +1,8 @@
 -- `answerOf` of each call: document 01's number and values of each case of its answer. Assumes nothing.
-use Rattle.model.specs.Calls.{Answer, refusal, done, containerAt, policyAt, says, found, noFinding, counted, refusalNumber}
+use mathlib.Core.List.{List}
+use Prim.Native.Nat.{ℕ}
+use lib.ListN.{take}
+use Rattle.model.specs.Calls.{Answer, refusal, done, containerAt, policyAt, says, found, noFinding, findingsPut, counted, refusalNumber}
 use Rattle.registry.specs.declared.Opened.{Opened}
 use Rattle.registry.specs.declared.Opened.the-variants as opened
 use Rattle.registry.specs.declared.Admitted.{Admitted}
@@ -13,6 +16,8 @@ use Rattle.registry.specs.declared.Carried.the-variants as carried
 use Rattle.findings.specs.Steps.{placeOf}
 use Rattle.registry.specs.declared.NextFinding.{NextFinding}
 use Rattle.registry.specs.declared.NextFinding.the-variants as next
+use Rattle.registry.specs.declared.FindingsPut.{FindingsPut}
+use Rattle.registry.specs.declared.FindingsPut.the-variants as put
 use Rattle.registry.specs.declared.Counted.{Counted}
 use Rattle.registry.specs.declared.Counted.the-variants as counts
 use Rattle.registry.specs.declared.Rebuilt.{Rebuilt}
@@ -47,6 +52,16 @@ abbrev pub nextAnswer : NextFinding → Answer
 nextAnswer (next.Refused r) = refusal (refusalNumber r)
 nextAnswer (next.Found g c) = found g (placeOf c)
 nextAnswer next.Nothing = noFinding
+
+-- the numbers put, which stand at the start of the list as it was left, and the place to go on from
+abbrev pub putAnswer : FindingsPut → List ℕ → Answer
+putAnswer (put.Refused r) e = refusal (refusalNumber r)
+putAnswer (put.Findings n c) e = findingsPut (take n e) (placeOf c)
+
+-- how many were put
+abbrev pub countPut : FindingsPut → ℕ
+countPut (put.Refused r) = 0
+countPut (put.Findings n c) = n
 
 -- standing containers, standing policies, PAIRS
 abbrev pub countedAnswer : Counted → Answer

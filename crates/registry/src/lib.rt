@@ -2,26 +2,28 @@
 ghost use mathlib.Core.Path.{_≡_};
 ghost use mathlib.Core.Bool.{true};
 ghost use Prim.Native.Nat.{_≤_};
-ghost use Rattle.model.specs.Calls.{openWith, admit, removeContainer, removePolicy, askReaches, askUser, nextFinding, counts, rebuild, audit, refusalNumber};
+ghost use lib.ListN.{length};
+ghost use Rattle.buffer.specs.Buffer.{overwritten};
+ghost use Rattle.model.specs.Calls.{openWith, admit, removeContainer, removePolicy, askReaches, askUser, nextFinding, listFindings, counts, rebuild, audit, written, refusalNumber};
 ghost use Rattle.findings.specs.Steps.{placeOf};
 ghost use Rattle.store.specs.Layout.{memoryWords};
 ghost use Rattle.formed.specs.Registry.{modelIn, wellFormed};
-ghost use Rattle.formed.specs.Entries.{SlotsWithin, freeIn};
+ghost use Rattle.formed.specs.Labels.{unpacked};
+ghost use Rattle.entries.specs.Entries.{SlotsWithin, freeIn};
 ghost use Rattle.steps.specs.MemoryStep.{memoryStep};
-ghost use Rattle.registry.specs.Answers.{openedAnswer, admittedAnswer, removedAnswer, reachedAnswer, carriedAnswer, nextAnswer, countedAnswer, rebuiltAnswer, auditedAnswer};
+ghost use Rattle.container_changes.specs.OneContainer.{SaysContainer};
+ghost use Rattle.policy_changes.specs.PolicyChange.{policyOf, SaysPolicy};
+ghost use Rattle.registry.specs.Answers.{openedAnswer, admittedAnswer, removedAnswer, reachedAnswer, carriedAnswer, nextAnswer, putAnswer, countPut, countedAnswer, rebuiltAnswer, auditedAnswer};
 ghost use Rattle.registry.specs.Tests.{memoryTest, slotTest, verdictTest};
 ghost use Rattle.registry.specs.Admission.{containerAdmitted, policyAdmitted};
-ghost use Rattle.changes.specs.Labels.{unpacked};
-ghost use Rattle.changes.specs.OneContainer.{SaysContainer};
-ghost use Rattle.changes.specs.PolicyChange.{policyOf, SaysPolicy};
 use block::Kind;
 use block::Labels;
 use block::Settings;
 use block::Verdict;
+use entries::FreeContainer;
+use entries::FreePolicy;
 use findings::Cursor;
 use findings::Step;
-use formed::entries::FreeContainer;
-use formed::entries::FreePolicy;
 use model::ContainerSlot;
 use model::Finding;
 use model::PolicySlot;
@@ -63,6 +65,12 @@ pub enum NextFinding {
     Refused(Refusal),
     Found(Finding, Cursor),
     Nothing,
+}
+
+// How many findings were put into the list, and the place to go on from.
+pub enum FindingsPut {
+    Refused(Refusal),
+    Findings(usize, Cursor),
 }
 
 // Standing containers, standing policies, and the set bits of the matrix.
@@ -176,7 +184,7 @@ pub fn open(memory: &mut [u64], block: &[u8]) -> Opened
         return Opened::Refused(why);
     }
     let settings = reading.settings;
-    changes::containers::start(memory, settings);
+    container_changes::start(memory, settings);
     Opened::Done
 }
 
@@ -185,12 +193,12 @@ fn admit_container(memory: &mut [u64], labels: Labels) -> Admitted
     requires { ⌜ (wellFormed (now memory) ≡ true) × SaysContainer (modelIn (now memory) .settings) labels ⌝ }
     ensures { λ r. ⌜ (now (memory .exit), admittedAnswer r) ≡ containerAdmitted (now (memory .entry)) (unpacked labels) ⌝ }
 {
-    let free = formed::entries::free_container(memory);
+    let free = entries::free_container(memory);
     let FreeContainer::At(slot) = free else {
         return Admitted::Refused(Refusal::TableFull);
     };
     let c = slot.0;
-    changes::containers::put_container(memory, c, labels);
+    container_changes::put_container(memory, c, labels);
     Admitted::Container(slot)
 }
 
@@ -199,12 +207,12 @@ fn admit_policy(memory: &mut [u64], direction: u64, select: Labels, allow: Label
     requires { ⌜ (wellFormed (now memory) ≡ true) × SaysPolicy (modelIn (now memory) .settings) direction select allow ⌝ }
     ensures { λ r. ⌜ (now (memory .exit), admittedAnswer r) ≡ policyAdmitted (now (memory .entry)) (policyOf direction select allow) ⌝ }
 {
-    let free = formed::entries::free_policy(memory);
+    let free = entries::free_policy(memory);
     let FreePolicy::At(slot) = free else {
         return Admitted::Refused(Refusal::TableFull);
     };
     let q = slot.0;
-    changes::policies::put_policy(memory, q, direction, select, allow);
+    policy_changes::put_policy(memory, q, direction, select, allow);
     Admitted::Policy(slot)
 }
 
@@ -251,7 +259,7 @@ pub fn remove_container(memory: &mut [u64], slot: ContainerSlot) -> Removed
     if let Tested::Refused(why) = named {
         return Removed::Refused(why);
     }
-    changes::containers::take_container(memory, c);
+    container_changes::take_container(memory, c);
     Removed::Done
 }
 
@@ -267,7 +275,7 @@ pub fn remove_policy(memory: &mut [u64], slot: PolicySlot) -> Removed
     if let Tested::Refused(why) = named {
         return Removed::Refused(why);
     }
-    changes::policies::take_policy(memory, q);
+    policy_changes::take_policy(memory, q);
     Removed::Done
 }
 
@@ -313,11 +321,7 @@ pub fn carries_user(memory: &[u64], slot: ContainerSlot, value: u64) -> Carried
     if 65535 < value {
         return Carried::Says(false);
     }
-    let says = formed::entries::carries(
-        memory,
-        store::CONTAINERS + 9 * c,
-        memory[0] * 65536 + value,
-    );
+    let says = entries::carries(memory, store::CONTAINERS + 9 * c, memory[0] * 65536 + value);
     Carried::Says(says)
 }
 
@@ -336,6 +340,22 @@ pub fn next_finding(memory: &[u64], cursor: Cursor) -> NextFinding
     }
 }
 
+// The findings after the cursor, as many as the list holds, each as one number, kind * 2^32 + a * 2^16 + b. The rest of the list is
+// kept.
+pub fn findings(memory: &[u64], cursor: Cursor, list: &mut [u64]) -> FindingsPut
+    ensures { λ r. ⌜ (now (memory .entry), putAnswer r (now (list .exit))) ≡ memoryStep (now (memory .entry)) (listFindings (placeOf cursor) (length (now (list .entry)))) ⌝ }
+    ensures { λ r. ⌜ countPut r ≡ length (written (memoryStep (now (memory .entry)) (listFindings (placeOf cursor) (length (now (list .entry)))) .1)) ⌝ }
+    ensures { λ r. ⌜ now (list .exit) ≡ overwritten (now (list .entry)) (written (memoryStep (now (memory .entry)) (listFindings (placeOf cursor) (length (now (list .entry)))) .1)) ⌝ }
+{
+    let tests = test_memory(memory);
+    if let Tested::Refused(why) = tests {
+        return FindingsPut::Refused(why);
+    }
+    let put = cursor.list(memory, list);
+    let place = put.cursor;
+    FindingsPut::Findings(put.count, place)
+}
+
 // The standing containers, the standing policies, and the set bits of the matrix.
 pub fn counts(memory: &[u64]) -> Counted
     ensures { λ r. ⌜ (now (memory .entry), countedAnswer r) ≡ memoryStep (now (memory .entry)) counts ⌝ }
@@ -344,9 +364,9 @@ pub fn counts(memory: &[u64]) -> Counted
     if let Tested::Refused(why) = tests {
         return Counted::Refused(why);
     }
-    let containers = changes::whole::count_containers(memory);
-    let policies = changes::whole::count_policies(memory);
-    let pairs = changes::whole::pairs(memory);
+    let containers = whole::count_containers(memory);
+    let policies = whole::count_policies(memory);
+    let pairs = whole::pairs(memory);
     Counted::Counts(containers, policies, pairs)
 }
 
@@ -358,7 +378,7 @@ pub fn rebuild(memory: &mut [u64]) -> Rebuilt
     if let Tested::Refused(why) = tests {
         return Rebuilt::Refused(why);
     }
-    changes::whole::rebuild(memory);
+    whole::rebuild(memory);
     Rebuilt::Done
 }
 
@@ -370,6 +390,6 @@ pub fn audit(memory: &[u64]) -> Audited
     if let Tested::Refused(why) = tests {
         return Audited::Refused(why);
     }
-    let says = changes::whole::is_consistent(memory);
+    let says = whole::is_consistent(memory);
     Audited::Says(says)
 }

@@ -1,5 +1,5 @@
 -- What a call answers, as its number; and that the counts fit. Assumes nothing.
-use mathlib.Core.Path.{_≡_, refl, ap, _∙_}
+use mathlib.Core.Path.{_≡_, refl, sym, ap, _∙_}
 use mathlib.Core.Bool.{Bool, true, false, cond}
 use mathlib.Core.List.{List, [], _∷_}
 use mathlib.Core.Option.{none, some}
@@ -11,11 +11,15 @@ use borrow.Author.Tests.{eqb-true, eqb-false}
 use Rattle.model.specs.Table.{Table, count, standingFrom, upFrom, below}
 use Rattle.model.specs.Model.{containerSlots, Bits}
 use Rattle.model.specs.Findings.{containersOf, policiesOf, pairsIn, pairs}
-use Rattle.model.specs.Calls.{Call, counts, Answer, refusal, counted}
+use Rattle.model.specs.Calls.{Call, counts, Answer, refusal, counted, written}
 use Rattle.steps.specs.MemoryStep.{memoryStep}
 use Rattle.formed.specs.Registry.{modelIn, bitsIn, wellFormed}
 use Rattle.store.specs.Layout.{memoryWords}
 use Rattle.steps.proofs.Outcomes.{sized-in, step-size, step-formed, counts-answers}
+use Rattle.findings.specs.declared.Cursor.{Cursor}
+use Rattle.registry.specs.declared.FindingsPut.{FindingsPut}
+use Rattle.registry.specs.declared.FindingsPut.the-variants as put
+use Rattle.registry.specs.Answers.{putAnswer, countPut}
 use Rattle.registry_c.specs.Codes.{codeOf, codedStep}
 
 -- from the register's own answer a, which is the number r
@@ -23,6 +27,12 @@ pub coded : (m e : List ℕ) (call : Call) (r : ℕ) (a : Answer) → _≡_ {A =
     → _≡_ {A = List ℕ × ℕ} (e, r) (codedStep m call)
 unfolding codedStep
 coded m e call r a h k = ap (λ n. (e, n)) k ∙ ap (λ s. (s .0, codeOf (s .1))) h
+
+-- how many were put is the number of what stands in the list
+pub put-coded : (m e : List ℕ) (call : Call) (o : FindingsPut) (n : ℕ) (c : Cursor) → o ≡ put.Findings n c
+    → _≡_ {A = List ℕ × Answer} (m, putAnswer o e) (memoryStep m call) → countPut o ≡ length (written (memoryStep m call .1)) → n ≡ codeOf (putAnswer o e)
+put-coded m e call o n c s h k =
+    ap countPut (sym s) ∙ k ∙ ap (λ x. length (written (x .1))) (sym h) ∙ ap (λ x. length (written (putAnswer x e))) s ∙ ap (λ x. codeOf (putAnswer x e)) (sym s)
 
 standing-few : {A : Type 0} (i : ℕ) (t : Table A) → length (standingFrom i t) ≤ length t
 standing-few i [] = omega arith

@@ -2,17 +2,14 @@
 use mathlib.Core.Bool.{Bool, true, false}
 use mathlib.Core.List.{List}
 use Prim.Native.Nat.{ℕ, _+_, _*_}
-use Rattle.model.specs.declared.Finding.{Finding}
-use Rattle.model.specs.Calls.{Call, Answer, refusal, done, containerAt, policyAt, says, found, noFinding, counted}
+use lib.ListN.{length}
+use Rattle.model.specs.Findings.{findingCode}
+use Rattle.model.specs.Calls.{Call, Answer, refusal, done, containerAt, policyAt, says, found, noFinding, findingsPut, counted}
 use Rattle.steps.specs.MemoryStep.{memoryStep}
 
 -- the refusal's number in the top byte
 unfoldable pub refusalCode : ℕ → ℕ
 refusalCode n = n * 72057594037927936
-
--- kind * 2^32 + a * 2^16 + b
-unfoldable pub findingCode : Finding → ℕ
-findingCode g = g .kind * 4294967296 + g .a * 65536 + g .b
 
 -- containers + policies * 2^16 + PAIRS * 2^32
 unfoldable pub countsCode : ℕ → ℕ → ℕ → ℕ
@@ -30,6 +27,7 @@ codeOf (policyAt q) = q
 codeOf (says t) = truthCode t
 codeOf (found g c) = findingCode g
 codeOf noFinding = 0
+codeOf (findingsPut l c) = length l
 codeOf (counted c q n) = countsCode c q n
 
 -- what a call leaves of the memory, and the number it answers

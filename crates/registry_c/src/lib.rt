@@ -1,9 +1,13 @@
 // The calls for C, Rust and others: numbers and slices only. An answer is one number: the refusal's number in the top byte, 0 where
-// the call was accepted, and below it the slot, 0 or 1, the finding, or the counts.
+// the call was accepted, and below it the slot, 0 or 1, the finding, how many findings were put into a list, or the counts.
 ghost use mathlib.Core.Path.{_≡_};
-ghost use Rattle.model.specs.Calls.{openWith, admit, removeContainer, removePolicy, askReaches, askUser, nextFinding, counts, rebuild, audit, refusalNumber};
+ghost use lib.ListN.{length};
+ghost use Rattle.buffer.specs.Buffer.{overwritten};
+ghost use Rattle.model.specs.Findings.{findingCode};
+ghost use Rattle.model.specs.Calls.{openWith, admit, removeContainer, removePolicy, askReaches, askUser, nextFinding, listFindings, counts, rebuild, audit, written, refusalNumber};
 ghost use Rattle.store.specs.Layout.{memoryWords};
-ghost use Rattle.registry_c.specs.Codes.{refusalCode, findingCode, truthCode, codedStep};
+ghost use Rattle.steps.specs.MemoryStep.{memoryStep};
+ghost use Rattle.registry_c.specs.Codes.{refusalCode, truthCode, codedStep};
 use findings::Cursor;
 use model::ContainerSlot;
 use model::Finding;
@@ -13,6 +17,7 @@ use registry::Admitted;
 use registry::Audited;
 use registry::Carried;
 use registry::Counted;
+use registry::FindingsPut;
 use registry::NextFinding;
 use registry::Opened;
 use registry::Reached;
@@ -131,6 +136,32 @@ pub extern "C" fn bihokura_next_finding(memory: &[u64], kind: u16, a: u16, b: u1
         NextFinding::Refused(why) => refused(why),
         NextFinding::Found(finding, _) => finding_code(finding),
         NextFinding::Nothing => 0,
+    }
+}
+
+#[no_mangle]
+pub extern "C" fn bihokura_findings(
+    memory: &[u64],
+    kind: u16,
+    a: u16,
+    b: u16,
+    list: &mut [u64],
+) -> u64
+    ensures { λ r. ⌜ (now (memory .entry), r) ≡ codedStep (now (memory .entry)) (listFindings (record { kind = kind; a = a; b = b }) (length (now (list .entry)))) ⌝ }
+    ensures { λ r. ⌜ now (list .exit) ≡ overwritten (now (list .entry)) (written (memoryStep (now (memory .entry)) (listFindings (record { kind = kind; a = a; b = b }) (length (now (list .entry)))) .1)) ⌝ }
+{
+    let answer = registry::findings(
+        memory,
+        Cursor {
+            kind: kind,
+            a: a,
+            b: b,
+        },
+        list,
+    );
+    match answer {
+        FindingsPut::Refused(why) => refused(why),
+        FindingsPut::Findings(count, _) => count as u64,
     }
 }
 

@@ -5,3 +5,4 @@ pub mod Valid
 pub mod Refinement
 pub mod Walk
 pub mod Listed
+pub mod Parts

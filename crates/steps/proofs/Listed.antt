@@ -21,7 +21,7 @@ use Rattle.model.specs.Model.{Model, empty, matrixBit}
 use Rattle.model.specs.Findings
 use Rattle.model.specs.Findings.{containersOf, policiesOf, pairsIn}
 use Rattle.model.specs.Stars.{label, policyTo}
-use Rattle.model.specs.Calls.{Call, openWith, admit, removeContainer, removePolicy, askReaches, askUser, nextFinding, counts, rebuild, audit}
+use Rattle.model.specs.Calls.{Call, openWith, admit, removeContainer, removePolicy, askReaches, askUser, nextFinding, listFindings, counts, rebuild, audit}
 use Rattle.model.specs.Calls.{Answer, refusal, says, counted}
 use Rattle.model.specs.ModelStep
 use Rattle.model.specs.ModelStep.{opening, admitting, modelStep}
@@ -46,6 +46,7 @@ stepStanding m (removePolicy q) = modelStep m (removePolicy q)
 stepStanding m (askReaches a b) = modelStep m (askReaches a b)
 stepStanding m (askUser c v) = modelStep m (askUser c v)
 stepStanding m (nextFinding c) = modelStep m (nextFinding c)
+stepStanding m (listFindings c n) = modelStep m (listFindings c n)
 stepStanding m counts = (m, counted (length (containersOf m)) (length (policiesOf m)) (pairsIn (matrixBit m) (containersOf m) (containersOf m)))
 stepStanding m rebuild = modelStep m rebuild
 stepStanding m audit = modelStep m audit
@@ -59,6 +60,7 @@ step-standing m s (removePolicy q) = refl
 step-standing m s (askReaches a b) = refl
 step-standing m s (askUser c v) = refl
 step-standing m s (nextFinding c) = refl
+step-standing m s (listFindings c n) = refl
 step-standing m s counts = ap (λ n. (m, counted (length (containersOf m)) (length (policiesOf m)) n)) (pairs-computed m (s .containers))
 step-standing m s rebuild = refl
 step-standing m s audit = refl
@@ -154,6 +156,7 @@ unfolding Written.validEntry Written.validLabels Written.inRange Reader.within W
 knowns =
     call counts
     ∷ call (nextFinding Findings.start)
+    ∷ call (listFindings Findings.start 3)
     ∷ call (removeContainer 0)
     ∷ containerOf (label 1 11 ∷ label 3 1 ∷ []) (λ s. refl)
     ∷ elsewhereAt 5762 refl (Listed.containerOf (label 1 11 ∷ label 3 2 ∷ []))
@@ -167,6 +170,11 @@ knowns =
     ∷ call (nextFinding Findings.start)
     ∷ call (nextFinding (Listed.cursor 4 3 1))
     ∷ call (nextFinding (Listed.cursor 7 2 1))
+    ∷ call (listFindings Findings.start 3)
+    ∷ call (listFindings (Listed.cursor 3 3 2) 5)
+    ∷ call (listFindings (Listed.cursor 3 2 0) 0)
+    ∷ call (listFindings (Listed.cursor 7 2 1) 1)
+    ∷ elsewhereAt 5762 refl (listFindings Findings.start 3)
     ∷ call (askReaches 1 0)
     ∷ call (askReaches 2 1)
     ∷ call (askReaches 4 256)
@@ -221,7 +229,7 @@ unfolding listed knowns containerOf policyOf said opens elsewhereAt fresh
     ModelStep.asking ModelStep.askingUser
     Findings.findings Findings.kinds Findings.irrelevance Findings.needless Findings.conflict Findings.shadow Findings.among Findings.connected
     Findings.systemIsolation Findings.userCross Findings.allIsolated Findings.allReachable Findings.connects Findings.oneDirection
-    Findings.isSystem Findings.sameUser Findings.nextAfter Findings.after
+    Findings.isSystem Findings.sameUser Findings.nextAfter Findings.after Findings.findingCode
 computes = refl
 
 -- ---- the claims

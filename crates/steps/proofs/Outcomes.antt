@@ -15,9 +15,9 @@ use Rattle.model.specs.Findings.{Cursor}
 use Rattle.model.specs.Table.{Table, on, isFree, at, free, lowestFree}
 use Rattle.model.specs.Rules.{carries}
 use Rattle.model.specs.Model.{containerSlots, policySlots}
-use Rattle.model.specs.Findings.{containersOf, policiesOf, nextAfter, pairs}
-use Rattle.model.specs.Calls.{Call, openWith, admit, removeContainer, removePolicy, askReaches, askUser, nextFinding, counts, rebuild, audit}
-use Rattle.model.specs.Calls.{refusal, done, containerAt, policyAt, says, counted, foundAnswer}
+use Rattle.model.specs.Findings.{containersOf, policiesOf, nextAfter, walk, pairs}
+use Rattle.model.specs.Calls.{Call, openWith, admit, removeContainer, removePolicy, askReaches, askUser, nextFinding, listFindings, counts, rebuild, audit}
+use Rattle.model.specs.Calls.{refusal, done, containerAt, policyAt, says, counted, foundAnswer, findingsAnswer}
 use Rattle.model.specs.Registry.{computed, consistent, changeContainer, changePolicy, opened, rebuilt}
 use Rattle.model.specs.Refusals.{where0, slotChecks, pairChecks, noRoom, refusals}
 use Rattle.model.specs.RegistryStep.{admitContainer, admitPolicy, admitEntry, takePolicy, acceptedStep}
@@ -40,6 +40,7 @@ opens (removePolicy q) = false
 opens (askReaches a b) = false
 opens (askUser c v) = false
 opens (nextFinding c) = false
+opens (listFindings c n) = false
 opens counts = false
 opens rebuild = false
 opens audit = false
@@ -73,6 +74,7 @@ module _ (m : List ℕ) (call : Call) where
       meets-formed (askReaches a b) e = refl
       meets-formed (askUser c v) e = refl
       meets-formed (nextFinding c) e = refl
+      meets-formed (listFindings c n) e = refl
       meets-formed counts e = refl
       meets-formed rebuild e = refl
       meets-formed audit e = refl
@@ -93,6 +95,7 @@ module _ (m : List ℕ) where
       go (askReaches a b) = passes
       go (askUser c v) = passes
       go (nextFinding c) = passes
+      go (listFindings c n) = passes
       go counts = passes
       go rebuild = passes
       go audit = passes
@@ -329,6 +332,10 @@ module _ (m : List ℕ) (formed : wellFormed m ≡ true) where
   pub next-answers : (c : Cursor) → memoryStep m (nextFinding c) ≡ (m, foundAnswer (nextAfter (modelIn m) (bitsIn m) c))
   unfolding refusals registryIn acceptedStep
   next-answers c = step-accepted m formed (nextFinding c) refl
+
+  pub findings-answers : (c : Cursor) (n : ℕ) → memoryStep m (listFindings c n) ≡ (m, findingsAnswer c (walk (nextAfter (modelIn m) (bitsIn m)) n c))
+  unfolding refusals registryIn acceptedStep
+  findings-answers c n = step-accepted m formed (listFindings c n) refl
 
   pub counts-answers : memoryStep m counts ≡ (m, counted (length (containersOf (modelIn m))) (length (policiesOf (modelIn m))) (pairs (bitsIn m)))
   unfolding refusals registryIn acceptedStep

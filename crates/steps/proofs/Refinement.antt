@@ -14,7 +14,7 @@ use Rattle.model.specs.declared.Finding.{Finding}
 use Rattle.model.specs.Findings.{Cursor}
 use Rattle.model.specs.Findings.{placeOf, nextAfter, start, walk}
 use Rattle.model.specs.Model.{Model, empty, computedBits}
-use Rattle.model.specs.Calls.{Call, openWith, admit, removeContainer, removePolicy, askReaches, askUser, nextFinding, counts, rebuild, audit}
+use Rattle.model.specs.Calls.{Call, openWith, admit, removeContainer, removePolicy, askReaches, askUser, nextFinding, listFindings, counts, rebuild, audit}
 use Rattle.model.specs.Calls.{Answer, done, foundAnswer}
 use Rattle.model.specs.ModelStep.{modelStep}
 use Rattle.model.specs.Registry.{Registry, computed}
@@ -47,6 +47,7 @@ changed r (removePolicy q) = refl
 changed r (askReaches a b) = refl
 changed r (askUser c v) = refl
 changed r (nextFinding c) = refl
+changed r (listFindings c n) = refl
 changed r counts = refl
 changed r rebuild = refl
 changed r audit = refl

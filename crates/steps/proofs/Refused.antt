@@ -12,7 +12,7 @@ use Rattle.block.specs.declared.Fault.the-variants.{Nowhere, At}
 use Rattle.block.specs.Refusal.{Refusal, Check, firstRefusal}
 use Rattle.block.specs.Reader.{settingsChecks, entryChecks}
 use Rattle.block.proofs.Accepted.{Clear, none-clear}
-use Rattle.model.specs.Calls.{Call, openWith, admit, removeContainer, removePolicy, askReaches, askUser, nextFinding, counts, rebuild, audit}
+use Rattle.model.specs.Calls.{Call, openWith, admit, removeContainer, removePolicy, askReaches, askUser, nextFinding, listFindings, counts, rebuild, audit}
 use Rattle.model.specs.Calls.{refusal}
 use Rattle.model.specs.Registry.{Registry}
 use Rattle.model.specs.Refusals.{refusals, faultOf, Refuses}
@@ -57,6 +57,7 @@ module _ (m : List ℕ) where
   rises (askReaches a b) = refl
   rises (askUser c v) = refl
   rises (nextFinding c) = refl
+  rises (listFindings c n) = refl
   rises counts = refl
   rises rebuild = refl
   rises audit = refl

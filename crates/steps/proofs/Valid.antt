@@ -14,7 +14,7 @@ use Rattle.block.specs.Written.{validSettings, validEntry}
 use Rattle.block.proofs.Accepted.{settings-valid, accepted-valid}
 use Rattle.model.specs.Table.{Table, on, at, lowestFree}
 use Rattle.model.specs.Model.{containerSlots, policySlots, Model, empty, withContainer, withPolicy, matrixBit, selectedBit, allowedBit, computedBits}
-use Rattle.model.specs.Calls.{Call, openWith, admit, removeContainer, removePolicy, askReaches, askUser, nextFinding, counts, rebuild, audit, refusal}
+use Rattle.model.specs.Calls.{Call, openWith, admit, removeContainer, removePolicy, askReaches, askUser, nextFinding, listFindings, counts, rebuild, audit, refusal}
 use Rattle.model.specs.ModelStep.{opening, placing, placingPolicy, admitting, removing, removingPolicy, modelStep}
 use Rattle.model.specs.Registry.{computed}
 use Rattle.model.proofs.Agreement.{Sized}
@@ -124,6 +124,7 @@ module _ (m : Model) (valid : Valid m) where
   valid-step (askReaches a b) = valid
   valid-step (askUser c v) = valid
   valid-step (nextFinding c) = valid
+  valid-step (listFindings c n) = valid
   valid-step counts = valid
   valid-step rebuild = valid
   valid-step audit = valid

@@ -3,7 +3,7 @@ use mathlib.Core.Path.{_≡_, refl, sym, _∙_}
 use mathlib.Core.Bool.{true, false}
 use mathlib.Core.List.{List, [], _∷_, _++_, map}
 use mathlib.Core.Option.{none, some}
-use Prim.Native.Nat.{ℕ, zero, suc}
+use Prim.Native.Nat.{ℕ, zero, suc, _+_, _*_}
 use lib.Dec.{eqb}
 use lib.ListN.{length, replicate, length-replicate}
 use borrow.Author.Tests.{eqb-false}
@@ -12,8 +12,8 @@ use Rattle.block.specs.Written.{sealed, blockOf, settingsBlock}
 use Rattle.model.specs.Findings.{Cursor}
 use Rattle.model.specs.Findings.{finding, start}
 use Rattle.model.specs.Stars.{label, policyTo}
-use Rattle.model.specs.Calls.{Call, openWith, admit, removeContainer, removePolicy, askReaches, askUser, nextFinding, counts, rebuild, audit}
-use Rattle.model.specs.Calls.{Answer, refusal, done, containerAt, policyAt, says, found, noFinding, counted}
+use Rattle.model.specs.Calls.{Call, openWith, admit, removeContainer, removePolicy, askReaches, askUser, nextFinding, listFindings, counts, rebuild, audit}
+use Rattle.model.specs.Calls.{Answer, refusal, done, containerAt, policyAt, says, found, noFinding, findingsPut, counted}
 use Rattle.store.specs.Layout.{memoryWords}
 use Rattle.steps.specs.Refinement.{Lending, ours, other, Seen}
 
@@ -90,6 +90,14 @@ cursor k a b = record { kind = k; a = a; b = b }
 abbrev pub meets : ℕ → ℕ → ℕ → Answer
 meets k a b = found (finding k a b) (cursor k a b)
 
+-- a finding as one number
+abbrev pub code : ℕ → ℕ → ℕ → ℕ
+code k a b = k * 4294967296 + a * 65536 + b
+
+-- these numbers were put, and here it goes on
+abbrev pub puts : List ℕ → ℕ → ℕ → ℕ → Answer
+puts l k a b = findingsPut l (cursor k a b)
+
 -- ---- the list, after an open with the printed settings
 
 -- n policies without labels, from slot i on
@@ -101,6 +109,7 @@ unfoldable pub listed : List Line
 listed =
     line counts (counted 0 0 0)
     ∷ line (nextFinding start) noFinding
+    ∷ line (listFindings start 3) (puts [] 0 0 0)
     ∷ line (removeContainer 0) (refusal 11)
     ∷ line (containerOf (label 1 11 ∷ label 3 1 ∷ [])) (containerAt 0)
     ∷ lineAt 5762 refl (containerOf (label 1 11 ∷ label 3 2 ∷ []))
@@ -115,6 +124,12 @@ listed =
     ∷ line (nextFinding start) (meets 3 0 2)
     ∷ line (nextFinding (cursor 4 3 1)) (meets 5 1 0)
     ∷ line (nextFinding (cursor 7 2 1)) noFinding
+    -- its first three findings, those after the seventh, into no room, after the last
+    ∷ line (listFindings start 3) (puts (code 3 0 2 ∷ code 3 0 3 ∷ code 3 2 0 ∷ []) 3 2 0)
+    ∷ line (listFindings (cursor 3 3 2) 5) (puts (code 4 3 1 ∷ code 5 1 0 ∷ code 7 2 1 ∷ []) 7 2 1)
+    ∷ line (listFindings (cursor 3 2 0) 0) (puts [] 3 2 0)
+    ∷ line (listFindings (cursor 7 2 1) 1) (puts [] 7 2 1)
+    ∷ lineAt 5762 refl (listFindings start 3)
     ∷ line (askReaches 1 0) (says false)
     ∷ line (askReaches 2 1) (says true)
     -- 10 of either comes before 11

@@ -6,7 +6,7 @@ use Prim.Native.Nat.{ℕ}
 use lib.Dec.{eqb}
 use lib.ListN.{length}
 use Rattle.block.specs.Refusal.{Refusal, Check, check, firstRefusal}
-use Rattle.model.specs.Calls.{Call, openWith, admit, removeContainer, removePolicy, askReaches, askUser, nextFinding, counts, rebuild, audit}
+use Rattle.model.specs.Calls.{Call, openWith, admit, removeContainer, removePolicy, askReaches, askUser, nextFinding, listFindings, counts, rebuild, audit}
 use Rattle.model.specs.Calls.{Answer, refusal}
 use Rattle.model.specs.Refusals.{where0, refusals}
 use Rattle.model.specs.RegistryStep.{acceptedStep}
@@ -29,6 +29,7 @@ meetsFormed m (removePolicy q) = formedCheck m
 meetsFormed m (askReaches a b) = formedCheck m
 meetsFormed m (askUser c v) = formedCheck m
 meetsFormed m (nextFinding c) = formedCheck m
+meetsFormed m (listFindings c n) = formedCheck m
 meetsFormed m counts = formedCheck m
 meetsFormed m rebuild = formedCheck m
 meetsFormed m audit = formedCheck m
@@ -46,6 +47,7 @@ changes (removePolicy q) = true
 changes (askReaches a b) = false
 changes (askUser c v) = false
 changes (nextFinding c) = false
+changes (listFindings c n) = false
 changes counts = false
 changes rebuild = true
 changes audit = false

@@ -11,7 +11,7 @@ use Rattle.model.specs.Findings.{Cursor}
 use Rattle.block.specs.Reader.{settingsIn}
 use Rattle.model.specs.Findings.{findings, start}
 use Rattle.formed.specs.Registry.{modelIn, bitsIn, wellFormed}
-use Rattle.model.specs.Calls.{Call, openWith, nextFinding, Answer, refusal, done, containerAt, policyAt, says, found, noFinding, counted}
+use Rattle.model.specs.Calls.{Call, openWith, nextFinding, Answer, refusal, done, containerAt, policyAt, says, found, noFinding, findingsPut, counted}
 use Rattle.model.specs.Model.{Model, empty, computedBits}
 use Rattle.model.specs.ModelStep.{modelStep}
 use Rattle.store.specs.Layout.{memoryWords}
@@ -56,6 +56,7 @@ onModel m (other x e call ∷ l) =
 abbrev pub followed : Answer → (Cursor → List Finding) → List Finding
 followed (found g c) rest = g ∷ rest c
 followed noFinding rest = []
+followed (findingsPut l c) rest = []
 followed (refusal k) rest = []
 followed done rest = []
 followed (containerAt i) rest = []

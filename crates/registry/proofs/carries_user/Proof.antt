@@ -5,8 +5,8 @@ use native.Mathlib.Omega.{arith}
 use Rattle.store.specs.Layout.{Whole, wordAt}
 use Rattle.formed.specs.Registry.{wellFormed}
 use Rattle.formed.proofs.Reading.{formed-whole, formed-small}
-use Rattle.formed.proofs.Trials.{container-within}
-use Rattle.formed.proofs.FormedEntries.{formed-slots}
+use Rattle.entries.proofs.Trials.{container-within}
+use Rattle.entries.proofs.FormedEntries.{formed-slots}
 use Rattle.registry.specs.declared.Tested.the-variants.{Passed}
 use Rattle.registry.proofs.TestLaws.{containerTest, memory-refused, memory-passed, container-passed, user-refused, user-above, user-answer, containers-within}
 use borrow.Author.Needs.{needs}

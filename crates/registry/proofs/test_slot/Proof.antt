@@ -3,7 +3,7 @@ use mathlib.Core.Bool.{true, false}
 use Prim.Native.Nat.{_+_, _*_, _<_}
 use lib.ListN.{length}
 use borrow.Author.Tests.{le-leb, lt-leb}
-use Rattle.formed.proofs.FreeSlots.{free-at, taken-at, slot-within}
+use Rattle.entries.proofs.FreeSlots.{free-at, taken-at, slot-within}
 use Rattle.registry.proofs.TestLaws.{test-beyond, test-within}
 use borrow.Author.Needs.{needs}
 use Rattle.registry.proofs.test_slot.Statement.{statement}

@@ -1,5 +1,5 @@
 use borrow.Author.Needs.{needs}
-use Rattle.registry_c.specs.Codes.{findingCode}
+use Rattle.model.specs.Findings.{findingCode}
 use Rattle.registry_c.proofs.finding_code.Statement.{statement}
 use Rattle.registry_c.proofs.finding_code.Tie as tie
 

@@ -7,8 +7,8 @@ use Rattle.bitrow.specs.Set.{meet, under, insert, Lowest}
 use Rattle.bitrow.proofs.Sets.{meet-nothing, under-zero}
 use Rattle.bitrow.proofs.Rows.{row-bounded}
 use Rattle.bitrow.proofs.Searches.{lowest-at, lowest-nothing}
-use Rattle.formed.proofs.Trials.{container-within, gather-take, gather-skip, gather-done}
-use Rattle.formed.proofs.FormedEntries.{formed-slots}
+use Rattle.entries.proofs.Trials.{container-within, gather-take, gather-skip, gather-done}
+use Rattle.entries.proofs.FormedEntries.{formed-slots}
 use Rattle.findings.specs.Rows.{withUser}
 use Rattle.findings.proofs.Words.{user-yes, user-no}
 use Rattle.findings.proofs.containers.same_user.Statement.{statement}

@@ -4,8 +4,8 @@ use mathlib.Core.Path.{ap, ap₂, _∙_}
 use borrow.Author.Tests.{not-true, not-false}
 use Rattle.bitrow.specs.Bit.{bitAt}
 use Rattle.bitrow.specs.Set.{less, remove}
-use Rattle.formed.proofs.Trials.{container-within}
-use Rattle.formed.proofs.FormedEntries.{formed-slots}
+use Rattle.entries.proofs.Trials.{container-within}
+use Rattle.entries.proofs.FormedEntries.{formed-slots}
 use Rattle.findings.proofs.Words.{system-small, system-unset, system-set}
 use Rattle.findings.proofs.ContainerRows.{system-none, system-row}
 use Rattle.findings.proofs.containers.system_isolation.Statement.{statement}

@@ -2,8 +2,8 @@ use borrow.Author.Needs.{needs}
 use mathlib.Core.Path.{_≡_, ap, ap₂, _∙_}
 use Rattle.bitrow.specs.Bit.{bitAt}
 use Rattle.bitrow.specs.Set.{meet, remove}
-use Rattle.formed.proofs.Trials.{container-within}
-use Rattle.formed.proofs.FormedEntries.{formed-slots}
+use Rattle.entries.proofs.Trials.{container-within}
+use Rattle.entries.proofs.FormedEntries.{formed-slots}
 use Rattle.findings.proofs.ContainerRows.{others, cross-row, cross-all}
 use Rattle.findings.proofs.containers.user_cross.Statement.{statement}
 use Rattle.findings.proofs.containers.user_cross.Tie as tie

@@ -7,7 +7,7 @@ use Rattle.bitrow.specs.Set.{meet, under, insert, Lowest}
 use Rattle.bitrow.proofs.Sets.{meet-nothing, under-zero}
 use Rattle.bitrow.proofs.Rows.{row-bounded}
 use Rattle.bitrow.proofs.Searches.{lowest-at, lowest-nothing}
-use Rattle.formed.proofs.Trials.{gather-take, gather-skip, gather-done}
+use Rattle.entries.proofs.Trials.{gather-take, gather-skip, gather-done}
 use Rattle.findings.specs.Rows.{comparison}
 use Rattle.findings.proofs.Words.{policy-in}
 use Rattle.findings.proofs.policies.compare_all.Statement.{statement}

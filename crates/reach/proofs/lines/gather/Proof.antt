@@ -2,7 +2,7 @@
 use borrow.Author.Needs.{needs}
 use native.Mathlib.Omega.{arith}
 use Rattle.block.specs.Reader.{directionOf}
-use Rattle.reach.proofs.Candidates.{policies-length}
+use Rattle.reach.proofs.SideLaws.{policies-length}
 use Rattle.reach.proofs.lines.gather.Statement.{statement}
 use Rattle.reach.proofs.lines.gather.Tie as tie
 

@@ -5,7 +5,7 @@ use mathlib.Core.Path.{_≡_, refl, sym, _∙_}
 use Prim.Native.Nat.{_-_, _≤_}
 use Rattle.bitrow.specs.Bit.{bitAt}
 use Rattle.bitrow.proofs.Arrays.{bit-of-row}
-use Rattle.reach.specs.Lets.{bits}
+use Rattle.sets.specs.Sets.{bits}
 use Rattle.reach.specs.Lines.{LinesAre}
 use Rattle.reach.proofs.LineLaws.{lines-none, lines-skip, lines-take}
 use Rattle.reach.proofs.lines.join_all.Statement.{statement}

@@ -6,7 +6,7 @@ use mathlib.Core.Bool.{_&&_}
 use Prim.Native.Nat.{_-_}
 use Rattle.bitrow.specs.Bit.{bitAt}
 use Rattle.bitrow.proofs.Arrays.{bit-of-row}
-use Rattle.reach.specs.Lets.{bits}
+use Rattle.sets.specs.Sets.{bits}
 use Rattle.reach.proofs.Unions.{Picking, pick-none, pick-skip, pick-take, pick-all}
 use Rattle.reach.proofs.rules.pick.Statement.{statement}
 use Rattle.reach.proofs.rules.pick.Tie as tie

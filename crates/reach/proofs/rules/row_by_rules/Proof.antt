@@ -3,7 +3,7 @@ use mathlib.Core.Path.{sym, _∙_}
 use borrow.Author.Needs.{needs}
 use borrow.Author.Tests.{not-true, not-false}
 use Rattle.bitrow.specs.Bit.{bitAt}
-use Rattle.reach.specs.Lets.{bits}
+use Rattle.sets.specs.Sets.{bits}
 use Rattle.reach.proofs.Unions.{line-meet, line-free}
 use Rattle.reach.proofs.rules.row_by_rules.Statement.{statement}
 use Rattle.reach.proofs.rules.row_by_rules.Tie as tie

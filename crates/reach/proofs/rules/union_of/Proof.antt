@@ -5,7 +5,7 @@ use mathlib.Core.Path.{sym, _∙_}
 use Prim.Native.Nat.{_-_}
 use Rattle.bitrow.specs.Bit.{bitAt}
 use Rattle.bitrow.proofs.Arrays.{bit-of-row}
-use Rattle.reach.specs.Lets.{bits}
+use Rattle.sets.specs.Sets.{bits}
 use Rattle.reach.proofs.Unions.{Union, gather-none, gather-skip, gather-take, gather-all}
 use Rattle.reach.proofs.rules.union_of.Statement.{statement}
 use Rattle.reach.proofs.rules.union_of.Tie as tie

@@ -1,0 +1,2 @@
+-- The laws of writing into a lent buffer.
+pub mod BufferLaws

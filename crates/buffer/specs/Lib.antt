@@ -1,0 +1,2 @@
+-- What the contracts of functions that write into a lent buffer cite.
+pub mod Buffer

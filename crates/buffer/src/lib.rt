@@ -1,0 +1,1 @@
+// What a call writes into bytes or numbers that it was lent: definitions and laws alone.

@@ -1,0 +1,454 @@
+-- What one container's words and bits make of a memory: the image of the changed registry. Assumes nothing.
+use mathlib.Core.Path.{_≡_, refl, sym, ap, ap₂, _∙_, subst}
+use mathlib.Core.Bool.{Bool, true, false, _&&_, _||_, cond, and-true}
+use mathlib.Core.List.{List, [], _∷_, map}
+use mathlib.Core.Option.{Option, none, some}
+use Prim.Native.Nat.{ℕ, zero, suc, _+_, _-_, _/_, _%_, _<_, _≤_}
+use native.Mathlib.Nat.{sub-zero}
+use native.Mathlib.Decide.{ℕ-discrete}
+use native.Mathlib.Omega.{arith}
+use lib.Dec.{eqb, ltb}
+use lib.ListN.{length, getD, set, replicate, length-set, length-replicate, getD-replicate}
+use lib.Seq.{getD-set-same, getD-set-other, set-getD}
+use borrow.Author.Tests.{lt-ltb, le-ltb}
+use Rattle.bitrow.specs.Bit.{bit, bitAt}
+use Rattle.bitrow.specs.Set.{nothing, under, insert}
+use Rattle.bitrow.proofs.Sets.{nothing-at, under-in, meet-at}
+use Rattle.bitrow.proofs.Sets.{at as point}
+use Rattle.block.specs.declared.Labels.{Labels}
+use Rattle.block.specs.Entry.{Container, Policy, Settings, ingress, egress, container}
+use Rattle.block.specs.Written.{validEntry}
+use Rattle.block.specs.Reading.{word, padded, packed}
+use Rattle.model.specs.Table.{Table, on, at, stands}
+use Rattle.model.specs.Model.{containerSlots, policySlots, Model, Bits, empty, withContainer, matrixBit, selectedBit, allowedBit, computedBits}
+use Rattle.model.specs.Registry.{Registry, setWhere, changeContainer, opened}
+use Rattle.store.specs.Layout.{containerStart, selectedRow, allowedRow, Whole}
+use Rattle.store.specs.Contents.{Contents, Holds}
+use Rattle.store.specs.Memory.{slotSet, withSlot, withRow, withColumn, changed, cleared, blank}
+use Rattle.store.proofs.Cases.{by-eqb, by-ltb}
+use Rattle.store.proofs.Carried.{SameContents, holds-as, holds-by, slot-in, slot-out, slot-bits, holds-slot, row-words, row-out, holds-row, holds-cleared}
+use Rattle.store.proofs.Columns.{column-in, column-out, column-words, holds-column}
+use Rattle.formed.specs.Words.{labelWord, partWord, settingsWord, containerWord, policyWord}
+use Rattle.formed.specs.Registry.{modelIn, registryIn, entryWord, storedBit, contentsOf, image, freeOr, Acceptable, wellFormed}
+use Rattle.formed.specs.Labels.{unpacked}
+use Rattle.formed.proofs.Tests.{both}
+use Rattle.formed.proofs.Parts.{labels-few}
+use Rattle.formed.proofs.Slots.{valid-container}
+use Rattle.formed.proofs.Standing.{meet-in, word-none, word-skip, word-take, two-words}
+use Rattle.formed.proofs.Back.{registry-image, written}
+use Rattle.formed.proofs.Acceptable.{containers-size}
+use Rattle.formed.proofs.Formed.{formed-memory, formed-holds, acceptable-image}
+use Rattle.formed.proofs.LabelLaws.{padded-at, unpacked-back}
+use Rattle.formed.proofs.StoredLaws.{Fit, stored-matrix, stored-selected, stored-allowed, by-table}
+use Rattle.sets.specs.Sets.{bits, SetsOf}
+use Rattle.reach.specs.Sides.{lineBit}
+use Rattle.reach.proofs.Model.{line-row, line-column}
+use Rattle.container_changes.specs.OneContainer.{SaysContainer, slotWords, bitsSet, holdingSet, refreshed}
+
+-- ---- labels as a count and words
+
+-- what a caller has of labels that the block reader hands over: they are those of a valid container x
+module _ (s : Settings) (x : Container) {l : Labels} (e : l ≡ packed x) (v : validEntry s (container x) ≡ true) where
+  pub unpacked-is : unpacked l ≡ x
+  unpacked-is = ap unpacked e ∙ unpacked-back 8 x (omega arith) (valid-container s x v)
+
+  pub says-container : SaysContainer s l
+  says-container = record {
+    exact = e ∙ ap packed (sym unpacked-is);
+    valid = subst (λ (y : Container). validEntry s (container y) ≡ true) (sym unpacked-is) v;
+  }
+
+eight-at : (w : List ℕ) (j : ℕ) → j < 8
+    → getD (getD w 0 0 ∷ getD w 1 0 ∷ getD w 2 0 ∷ getD w 3 0 ∷ getD w 4 0 ∷ getD w 5 0 ∷ getD w 6 0 ∷ getD w 7 0 ∷ 0 ∷ 0 ∷ []) j 0 ≡ getD w j 0
+eight-at w zero h = refl
+eight-at w (suc zero) h = refl
+eight-at w (suc (suc zero)) h = refl
+eight-at w (suc (suc (suc zero))) h = refl
+eight-at w (suc (suc (suc (suc zero)))) h = refl
+eight-at w (suc (suc (suc (suc (suc zero))))) h = refl
+eight-at w (suc (suc (suc (suc (suc (suc zero)))))) h = refl
+eight-at w (suc (suc (suc (suc (suc (suc (suc zero))))))) h = refl
+eight-at w (suc (suc (suc (suc (suc (suc (suc (suc j)))))))) h = absurd (omega arith)
+
+packed-word : (x : Container) (k : ℕ) → k < 9 → getD (slotWords (packed x)) k 0 ≡ containerWord (some x) k
+unfolding slotWords packed partWord labelWord
+packed-word x zero h = omega arith
+packed-word x (suc j) h = eight-at (padded 8 (map word x)) j (omega arith) ∙ padded-at 8 (map word x) j (omega arith)
+
+module _ {s : Settings} {l : Labels} (g : SaysContainer s l) where
+  pub slot-count : l .count ≤ 8
+  unfolding packed
+  slot-count = omega (arith, ap (λ (x : Labels). x .count) (g .exact), labels-few 8 (unpacked l) (valid-container s (unpacked l) (g .valid)))
+
+  slot-word : (k : ℕ) → k < 9 → getD (slotWords l) k 0 ≡ containerWord (some (unpacked l)) k
+  slot-word k h = ap (λ (x : Labels). getD (slotWords x) k 0) (g .exact) ∙ packed-word (unpacked l) k h
+
+-- ---- the words of a container's slot
+
+module _ (p : Model) (c : ℕ) (o : Option Container) where
+  -- those of the other slots
+  other-word : (k : ℕ) → (3 ≤ k → k < 2307 → (k - 3) / 9 ≡ c → ⊥) → entryWord p k ≡ entryWord (withContainer p c o) k
+  unfolding entryWord withContainer
+  other-word k n =
+      let s = settingsWord (p .settings) k in
+      let x = containerWord (at (p .containers) ((k - 3) / 9)) ((k - 3) % 9) in
+      let z = containerWord (at (set (p .containers) c o) ((k - 3) / 9)) ((k - 3) % 9) in
+      let y = policyWord (at (p .policies) ((k - 2307) / 11)) ((k - 2307) % 11) in
+      by-ltb (λ t. cond t s (cond (ltb k 2307) x y) ≡ cond t s (cond (ltb k 2307) z y)) k 3
+      (λ l. refl)
+      (λ l. by-ltb (λ t. cond t x y ≡ cond t z y) k 2307
+      (λ h. ap (λ (e : Option Container). containerWord e ((k - 3) % 9)) (sym (getD-set-other (p .containers) c ((k - 3) / 9) o none (λ e. n l h e))))
+      (λ h. refl))
+
+  -- those of the slot
+  slot-words : (j : ℕ) → c < containerSlots → length (p .containers) ≡ containerSlots → j < 9 → containerWord o j ≡ entryWord (withContainer p c o) (containerStart c + j)
+  unfolding entryWord withContainer
+  slot-words j hc long h =
+      let a : (containerStart c + j - 3) / 9 ≡ c = omega arith in
+      let b : (containerStart c + j - 3) % 9 ≡ j = omega arith in
+      let e : at (set (p .containers) c o) c ≡ o = getD-set-same (p .containers) c o none (omega arith) in
+      rw (le-ltb (containerStart c + j) 3 (omega arith), lt-ltb (containerStart c + j) 2307 (omega arith), a, b, e)
+
+-- the registry with this at container slot c, its bits as they were
+abbrev pub placed : Registry → ℕ → Option Container → Registry
+placed r c o = record { model = withContainer (r .model) c o; bits = r .bits }
+
+module _ (r : Registry) (c : ℕ) (hc : c < containerSlots) (long : length (r .model .containers) ≡ containerSlots) (o : Option Container)
+    (ws : List ℕ) (size : 9 ≤ length ws) (said : (k : ℕ) → k < 9 → getD ws k 0 ≡ containerWord o k) where
+  abbrev over : Contents
+  over = withSlot (contentsOf r) (containerStart c) 9 ws
+
+  placed-word : (k : ℕ) → over .words k ≡ entryWord (withContainer (r .model) c o) k
+  unfolding contentsOf
+  placed-word k =
+      by-ltb (λ t. over .words k ≡ entryWord (withContainer (r .model) c o) k) k (containerStart c)
+      (λ l. slot-out (contentsOf r) (containerStart c) 9 ws k (λ a b. omega arith) ∙ other-word (r .model) c o k (λ a b e. omega arith))
+      (λ l. by-ltb (λ t. over .words k ≡ entryWord (withContainer (r .model) c o) k) k (containerStart c + 9)
+      (λ h. let e : containerStart c + (k - containerStart c) ≡ k = omega arith in
+      slot-in (contentsOf r) (containerStart c) 9 ws k l h ∙ said (k - containerStart c) (omega arith)
+      ∙ slot-words (r .model) c o (k - containerStart c) hc long (omega arith) ∙ ap (entryWord (withContainer (r .model) c o)) e)
+      (λ h. slot-out (contentsOf r) (containerStart c) 9 ws k (λ a b. omega arith) ∙ other-word (r .model) c o k (λ a b e. omega arith)))
+
+  placed-same : SameContents over (contentsOf (placed r c o))
+  unfolding contentsOf
+  placed-same = record { words = λ k l. placed-word k; bits = λ x y hx hy. ap (λ (f : ℕ → ℕ → Bool). f x y) (slot-bits (contentsOf r) (containerStart c) 9 ws) }
+
+  pub holds-placed : {m : List ℕ} → Holds m (contentsOf r) → Holds (slotSet m (containerStart c) 9 ws) (contentsOf (placed r c o))
+  holds-placed h = holds-as (holds-slot h (containerStart c) 9 ws (omega arith) size) (contentsOf (placed r c o)) placed-same
+
+-- ---- a container's bits
+
+-- container c's bits those of t, the others as they were
+abbrev pub mixed : ℕ → Bits → Bits → Bits
+mixed c t old = record {
+  matrix = setWhere (λ a b. eqb a c || eqb b c) (t .matrix) (old .matrix);
+  selected = setWhere (λ q b. eqb b c) (t .selected) (old .selected);
+  allowed = setWhere (λ q b. eqb b c) (t .allowed) (old .allowed);
+}
+
+-- rows that say t's bits of container c
+pub record BitsOf (c : ℕ) (t : Bits) (across down sel alw : List ℕ) : Type 0 where
+  pub row : (b : ℕ) → b < containerSlots → bitAt across b ≡ t .matrix c b
+  pub column : (a : ℕ) → a < containerSlots → bitAt down a ≡ t .matrix a c
+  pub selected : (q : ℕ) → q < policySlots → bitAt sel q ≡ t .selected q c
+  pub allowed : (q : ℕ) → q < policySlots → bitAt alw q ≡ t .allowed q c
+
+-- a bit of row c or column c, or neither
+crossed : (c : ℕ) (f old : ℕ → ℕ → Bool) (x y : ℕ) (u v w : Bool) → u ≡ f x c → v ≡ f c y → w ≡ old x y
+    → cond (eqb y c) u (cond (eqb x c) v w) ≡ setWhere (λ a b. eqb a c || eqb b c) f old x y
+unfolding setWhere
+crossed c f old x y u v w eu ev ew =
+    by-eqb (λ s. cond s u (cond (eqb x c) v w) ≡ cond (eqb x c || s) (f x y) (old x y)) y c
+    (λ e. let d : u ≡ f x y = eu ∙ ap (f x) (sym e) in by-eqb (λ t. u ≡ cond (t || true) (f x y) (old x y)) x c (λ _. d) (λ _. d))
+    (λ _. by-eqb (λ t. cond t v w ≡ cond (t || false) (f x y) (old x y)) x c (λ e. ev ∙ ap (λ (a : ℕ). f a y) (sym e)) (λ _. ew))
+
+-- a bit of column c, or another
+crossing : (c : ℕ) (f old : ℕ → ℕ → Bool) (q y : ℕ) (u w : Bool) → u ≡ f q c → w ≡ old q y → cond (eqb y c) u w ≡ setWhere (λ i b. eqb b c) f old q y
+unfolding setWhere
+crossing c f old q y u w eu ew =
+    by-eqb (λ s. cond s u w ≡ cond s (f q y) (old q y)) y c (λ e. eu ∙ ap (f q) (sym e)) (λ _. ew)
+
+module _ (r : Registry) (c : ℕ) (hc : c < containerSlots) (t : Bits) {row column selected allowed : List ℕ} (g : BitsOf c t row column selected allowed) where
+  abbrev new : Bits
+  new = mixed c t (r .bits)
+
+  abbrev k0 : Contents
+  k0 = contentsOf r
+
+  abbrev k1 : Contents
+  k1 = withRow k0 c (bitAt row)
+
+  abbrev k2 : Contents
+  k2 = withColumn k1 0 1 256 c (bitAt column)
+
+  abbrev k3 : Contents
+  k3 = withColumn k2 256 2 128 c (bitAt selected)
+
+  abbrev k4 : Contents
+  k4 = withColumn k3 257 2 128 c (bitAt allowed)
+
+  matrix-new : (x y : ℕ) → x < containerSlots → y < containerSlots → k4 .bits x y ≡ new .matrix x y
+  unfolding changed withRow contentsOf
+  matrix-new x y hx hy =
+      point (column-out k3 257 2 128 c (bitAt allowed) x (λ i h e. omega arith)
+      ∙ column-out k2 256 2 128 c (bitAt selected) x (λ i h e. omega arith)
+      ∙ column-in k1 0 1 256 c (bitAt column) x x (omega arith) hx (omega arith)) y
+      ∙ ap (cond (eqb y c) (bitAt column x)) (by-eqb (λ s. cond s (bitAt row) (k0 .bits x) y ≡ cond s (bitAt row y) (k0 .bits x y)) x c (λ _. refl) (λ _. refl))
+      ∙ crossed c (t .matrix) (r .bits .matrix) x y (bitAt column x) (bitAt row y) (k0 .bits x y) (g .column x hx) (g .row y hy) (point (stored-matrix (r .bits) x hx) y)
+
+  selected-new : (q y : ℕ) → q < policySlots → k4 .bits (selectedRow q) y ≡ new .selected q y
+  unfolding changed contentsOf
+  selected-new q y hq =
+      let x = selectedRow q in
+      point (column-out k3 257 2 128 c (bitAt allowed) x (λ i h e. omega arith) ∙ column-in k2 256 2 128 c (bitAt selected) x q (omega arith) hq refl) y
+      ∙ ap (cond (eqb y c) (bitAt selected q)) (point (column-out k1 0 1 256 c (bitAt column) x (λ i h e. omega arith) ∙ row-out k0 c (bitAt row) x (λ e. omega arith)) y)
+      ∙ crossing c (t .selected) (r .bits .selected) q y (bitAt selected q) (k0 .bits x y) (g .selected q hq) (point (stored-selected (r .bits) q) y)
+
+  allowed-new : (q y : ℕ) → q < policySlots → k4 .bits (allowedRow q) y ≡ new .allowed q y
+  unfolding changed contentsOf
+  allowed-new q y hq =
+      let x = allowedRow q in
+      point (column-in k3 257 2 128 c (bitAt allowed) x q (omega arith) hq refl) y
+      ∙ ap (cond (eqb y c) (bitAt allowed q)) (point (column-out k2 256 2 128 c (bitAt selected) x (λ i h e. omega arith)
+      ∙ column-out k1 0 1 256 c (bitAt column) x (λ i h e. omega arith) ∙ row-out k0 c (bitAt row) x (λ e. omega arith)) y)
+      ∙ crossing c (t .allowed) (r .bits .allowed) q y (bitAt allowed q) (k0 .bits x y) (g .allowed q hq) (point (stored-allowed (r .bits) q) y)
+
+  stored-new : (x y : ℕ) → x < 512 → y < 256 → k4 .bits x y ≡ storedBit new x y
+  stored-new x y hx hy =
+      let q = (x - 256) / 2 in
+      by-table (λ t. k4 .bits x y ≡ t) new x y
+      (λ l. matrix-new x y l hy)
+      (λ l e. let d : x ≡ selectedRow q = omega arith in ap (λ (z : ℕ). k4 .bits z y) d ∙ selected-new q y (omega arith))
+      (λ l e. let d : x ≡ allowedRow q = omega arith in ap (λ (z : ℕ). k4 .bits z y) d ∙ allowed-new q y (omega arith))
+
+  words-new : k4 .words ≡ k0 .words
+  words-new =
+      column-words k3 257 2 128 c (bitAt allowed) ∙ column-words k2 256 2 128 c (bitAt selected)
+      ∙ column-words k1 0 1 256 c (bitAt column) ∙ row-words k0 c (bitAt row)
+
+  abbrev pub renewed : Registry
+  renewed = record { model = r .model; bits = new }
+
+  renewed-same : SameContents k4 (contentsOf renewed)
+  unfolding contentsOf
+  renewed-same = record { words = λ k l. ap (λ (f : ℕ → ℕ). f k) words-new; bits = stored-new }
+
+  pub holds-bits : {m : List ℕ} → Holds m (contentsOf r) → Holds (bitsSet m c row column selected allowed) (contentsOf renewed)
+  unfolding bitsSet
+  holds-bits h =
+      let h1 = holds-row h c row (omega arith) in
+      let h2 = holds-column 0 1 256 c column h1 (omega arith) (omega arith) hc in
+      let h3 = holds-column 256 2 128 c selected h2 (omega arith) (omega arith) hc in
+      holds-as (holds-column 257 2 128 c allowed h3 (omega arith) (omega arith) hc) (contentsOf renewed) renewed-same
+
+-- ---- a container that goes: "a bit of an empty place being clear"
+
+on-false : {A : Type 0} (o : Option A) → on (λ x. false) o ≡ false
+on-false none = refl
+on-false (some x) = refl
+
+module _ (p : Model) (c : ℕ) (free : at (p .containers) c ≡ none) (clear : List ℕ) (z : bitAt clear ≡ nothing) where
+  none-at : (j : ℕ) → bitAt clear j ≡ false
+  none-at j = point z j ∙ nothing-at j
+
+  free-bits : BitsOf c (computedBits p) clear clear clear clear
+  unfolding computedBits matrixBit selectedBit allowedBit
+  free-bits = record {
+    row = λ b h. rw free (none-at b);
+    column = λ a h. rw free (none-at a ∙ sym (on-false (at (p .containers) a)));
+    selected = λ q h. rw free (none-at q ∙ sym (on-false (at (p .policies) q)));
+    allowed = λ q h. rw free (none-at q ∙ sym (on-false (at (p .policies) q)));
+  }
+
+module _ (m : List ℕ) (ok : wellFormed m ≡ true) (c : ℕ) (hc : c < containerSlots) where
+  abbrev held : Registry
+  held = registryIn m
+
+  free-slot : at (withContainer (held .model) c none .containers) c ≡ none
+  unfolding withContainer
+  free-slot = let n = containers-size m in getD-set-same (held .model .containers) c none none (omega arith)
+
+  pub taken : (clear : List ℕ) {d e ws : List ℕ} → bitAt clear ≡ nothing → ws ≡ replicate 11 0
+      → d ≡ slotSet m (containerStart c) 9 ws → e ≡ bitsSet d c clear clear clear clear → Fit e → e ≡ image (changeContainer held c none)
+  unfolding changeContainer
+  taken clear {d} {e} {ws} z w v q fit =
+      let size : 9 ≤ length ws = omega (arith, ap length w, length-replicate {A = ℕ} 11 0) in
+      let placing : Holds d (contentsOf (placed held c none)) = holds-by (holds-placed held c hc (containers-size m) none ws size
+      (λ k h. ap (λ (l : List ℕ). getD l k 0) w ∙ getD-replicate 11 k 0 0 (omega arith)) (formed-holds m ok)) v in
+      written (changeContainer held c none) e
+      (holds-by (holds-bits (placed held c none) c hc (computedBits (withContainer (held .model) c none)) (free-bits (withContainer (held .model) c none) c free-slot clear z) placing) q) fit
+
+-- ---- a container's bits by the rules, from the entries as they stand
+
+same-slot : (p : Model) (c : ℕ) → withContainer p c (at (p .containers) c) ≡ p
+unfolding withContainer
+same-slot p c = λ i. record { settings = p .settings; containers = set-getD (p .containers) c none i; policies = p .policies }
+
+-- the registry of entries p, container c's bits by the rules and the others as in `old`
+abbrev byRules : Bits → ℕ → Model → Registry
+byRules old c p = record { model = p; bits = mixed c (computedBits p) old }
+
+refreshed-is : (r : Registry) (c : ℕ) → refreshed r c ≡ byRules (r .bits) c (r .model)
+unfolding refreshed changeContainer
+refreshed-is r c = ap (byRules (r .bits) c) (same-slot (r .model) c)
+
+pub refresh-done : (m : List ℕ) → wellFormed m ≡ true → (c : ℕ) → c < containerSlots → {e row column selected allowed : List ℕ}
+    → BitsOf c (computedBits (modelIn m)) row column selected allowed → e ≡ bitsSet m c row column selected allowed → Fit e → e ≡ image (refreshed (registryIn m) c)
+unfolding registryIn
+refresh-done m ok c hc {e} g q fit =
+    let r = registryIn m in
+    written (byRules (r .bits) c (r .model)) e
+    (holds-by (holds-bits r c hc (computedBits (r .model)) g (formed-holds m ok)) q) fit
+    ∙ ap image (sym (refreshed-is r c))
+
+-- ---- a container that comes
+
+module _ (t : Table Container) (c : ℕ) (x : Container) (within : c < length t) where
+  -- what passes at every slot, and x too, passes at every slot of the new table
+  placed-each : (f : Option Container → Bool) → ((i : ℕ) → f (at t i) ≡ true) → f (some x) ≡ true → (i : ℕ) → f (at (set t c (some x)) i) ≡ true
+  placed-each f old new i = go (ℕ-discrete i c)
+    where
+      go : Dec (i ≡ c) → f (at (set t c (some x)) i) ≡ true
+      go (yes e) = ap (λ (k : ℕ). f (at (set t c (some x)) k)) e ∙ ap f (getD-set-same t c (some x) none within) ∙ new
+      go (no n) = ap f (getD-set-other t c i (some x) none n) ∙ old i
+
+  -- what stood still stands
+  placed-stands : (i : ℕ) → stands t i ≡ true → stands (set t c (some x)) i ≡ true
+  placed-stands i h = go (ℕ-discrete i c)
+    where
+      go : Dec (i ≡ c) → stands (set t c (some x)) i ≡ true
+      go (yes e) = ap (stands (set t c (some x))) e ∙ ap (on (λ _. true)) (getD-set-same t c (some x) none within)
+      go (no n) = ap (on (λ _. true)) (getD-set-other t c i (some x) none n) ∙ h
+
+placed-acceptable : (r : Registry) → Acceptable r → (c : ℕ) → c < containerSlots → (x : Container) → validEntry (r .model .settings) (container x) ≡ true → Acceptable (placed r c (some x))
+unfolding withContainer
+placed-acceptable r ok c hc x v =
+    let t = r .model .containers in
+    let within : c < length t = let n = ok .containers in omega arith in
+    let still = placed-stands t c x within in
+    record {
+      containers = length-set t c (some x) ∙ ok .containers;
+      policies = ok .policies;
+      settings = ok .settings;
+      container = placed-each t c x within (freeOr (λ y. validEntry (r .model .settings) (container y))) (ok .container) v;
+      policy = ok .policy;
+      matrix = λ a b e. let h = both (stands t a) (stands t b) (ok .matrix a b e) in ap₂ _&&_ (still a (h .0)) (still b (h .1));
+      selected = λ q b e. let h = both (stands (r .model .policies) q) (stands t b) (ok .selected q b e) in ap₂ _&&_ (h .0) (still b (h .1));
+      allowed = λ q b e. let h = both (stands (r .model .policies) q) (stands t b) (ok .allowed q b e) in ap₂ _&&_ (h .0) (still b (h .1));
+    }
+
+-- then its bits are set by the rules
+refreshed-placed : (r : Registry) (c : ℕ) (o : Option Container) → refreshed (placed r c o) c ≡ changeContainer r c o
+unfolding changeContainer
+refreshed-placed r c o = refreshed-is (placed r c o) c
+
+module _ (m : List ℕ) (ok : wellFormed m ≡ true) (c : ℕ) (hc : c < containerSlots) (l : Labels) (says : SaysContainer (modelIn m .settings) l) where
+  abbrev come : Registry
+  come = placed (registryIn m) c (some (unpacked l))
+
+  come-acceptable : Acceptable come
+  unfolding registryIn
+  come-acceptable = placed-acceptable (registryIn m) (formed-memory m ok .acceptable) c hc (unpacked l) (says .valid)
+
+  module _ {e ws : List ℕ} (w : ws ≡ slotWords l) (q : e ≡ slotSet m (containerStart c) 9 ws) (fit : Fit e) where
+    come-image : e ≡ image come
+    unfolding slotWords
+    come-image =
+        written come e
+        (holds-by (holds-placed (registryIn m) c hc (containers-size m) (some (unpacked l)) ws (omega (arith, ap length w))
+        (λ k h. ap (λ (v : List ℕ). getD v k 0) w ∙ slot-word says k h) (formed-holds m ok)) q) fit
+
+    -- the memory with the slot's words alone is well formed
+    pub put-formed : wellFormed e ≡ true
+    put-formed = ap wellFormed come-image ∙ acceptable-image come come-acceptable
+
+    pub put-done : {f : List ℕ} → f ≡ image (refreshed (registryIn e) c) → f ≡ image (changeContainer (registryIn m) c (some (unpacked l)))
+    put-done s =
+        s ∙ ap (λ (r : Registry). image (refreshed r c)) (ap registryIn come-image ∙ registry-image come come-acceptable)
+        ∙ ap image (refreshed-placed (registryIn m) c (some (unpacked l)))
+
+-- ---- the policies whose set has c
+
+module _ (sets : ℕ → ℕ → Bool) (c : ℕ) where
+  -- of 64 from a number on, gathered one by one
+  module _ (first : ℕ) where
+    abbrev those : ℕ → ℕ → Bool
+    those k c = sets (first + k) c
+
+    pub holding-none : bit 0 ≡ holdingSet 0 those c
+    unfolding holdingSet
+    holding-none = word-none (λ k. those k c)
+
+    pub holding-take : (k w v : ℕ) → bit w ≡ holdingSet k those c → k < 64 → bit v ≡ insert (k % 64) (bit w) → sets (first + k) c ≡ true → bit v ≡ holdingSet (k + 1) those c
+    unfolding holdingSet
+    holding-take k w v e h f t = word-take (λ k. those k c) k w e v h f t
+
+    pub holding-skip : (k w : ℕ) → bit w ≡ holdingSet k those c → sets (first + k) c ≡ false → bit w ≡ holdingSet (k + 1) those c
+    unfolding holdingSet
+    holding-skip k w e t = word-skip (λ k. those k c) k w e t
+
+  pub holding-row : (a b : ℕ) → bit a ≡ holdingSet 64 (λ k. sets (0 + k)) c → bit b ≡ holdingSet 64 (λ k. sets (64 + k)) c → bitAt (a ∷ b ∷ 0 ∷ 0 ∷ []) ≡ holdingSet 128 sets c
+  unfolding holdingSet
+  holding-row a b e f =
+      two-words (λ q. sets q c) a b (λ i h. point e i ∙ meet-in (λ k. sets (0 + k) c) 64 i h) (λ i h. point f i ∙ meet-in (λ k. sets (64 + k) c) 64 i h)
+
+holding-at : (n : ℕ) (s : ℕ → ℕ → Bool) (c q : ℕ) → q < n → holdingSet n s c q ≡ s q c
+unfolding holdingSet
+holding-at n s c q h = meet-at (λ i. s i c) (under n) q ∙ ap (λ (t : Bool). s q c && t) (under-in n q h) ∙ and-true (s q c)
+
+-- ---- the rows that the rules give of a model's sets
+
+module _ (p : Model) (c : ℕ) {row column selecting allowing : List ℕ} {sel alw : List (List ℕ)} where
+  pub bits-by-rules : bitAt row ≡ lineBit p egress c → bitAt column ≡ lineBit p ingress c → SetsOf p sel alw
+      → bitAt selecting ≡ holdingSet policySlots (bits sel) c → bitAt allowing ≡ holdingSet policySlots (bits alw) c → BitsOf c (computedBits p) row column selecting allowing
+  unfolding computedBits
+  bits-by-rules er ec sets es ea = record {
+    row = λ b h. point (er ∙ line-row p c) b;
+    column = λ a h. point (ec ∙ line-column p c) a;
+    selected = λ q h. point es q ∙ holding-at policySlots (bits sel) c q h ∙ point (sets .selected .row q h) c;
+    allowed = λ q h. point ea q ∙ holding-at policySlots (bits alw) c q h ∙ point (sets .allowed .row q h) c;
+  }
+
+-- ---- an open
+
+none-free : {A : Type 0} (n i : ℕ) → getD {A = Option A} (replicate n none) i none ≡ none
+none-free zero i = refl
+none-free (suc n) zero = refl
+none-free (suc n) (suc i) = none-free n i
+
+abbrev settingsWords : Settings → List ℕ
+settingsWords s = s .userKey ∷ s .systemKey ∷ s .systemValue ∷ 0 ∷ 0 ∷ 0 ∷ 0 ∷ 0 ∷ 0 ∷ 0 ∷ 0 ∷ []
+
+three-at : (s : Settings) (k : ℕ) → k < 3 → getD (settingsWords s) k 0 ≡ settingsWord s k
+three-at s zero h = refl
+three-at s (suc zero) h = refl
+three-at s (suc (suc zero)) h = refl
+three-at s (suc (suc (suc k))) h = absurd (omega arith)
+
+module _ (s : Settings) where
+  abbrev begun : Contents
+  begun = withSlot blank 0 3 (settingsWords s)
+
+  begun-word : (k : ℕ) → begun .words k ≡ entryWord (empty s) k
+  unfolding entryWord empty blank
+  begun-word k =
+      let x = containerWord (at (replicate containerSlots none) ((k - 3) / 9)) ((k - 3) % 9) in
+      let y = policyWord (at (replicate policySlots none) ((k - 2307) / 11)) ((k - 2307) % 11) in
+      let ex : x ≡ 0 = ap (λ (o : Option Container). containerWord o ((k - 3) % 9)) (none-free containerSlots ((k - 3) / 9)) in
+      let ey : y ≡ 0 = ap (λ (o : Option Policy). policyWord o ((k - 2307) % 11)) (none-free policySlots ((k - 2307) / 11)) in
+      by-ltb (λ t. begun .words k ≡ cond t (settingsWord s k) (cond (ltb k 2307) x y)) k 3
+      (λ l. slot-in blank 0 3 (settingsWords s) k (omega arith) (omega arith) ∙ ap (λ (i : ℕ). getD (settingsWords s) i 0) (sub-zero k) ∙ three-at s k l)
+      (λ l. slot-out blank 0 3 (settingsWords s) k (λ a b. omega arith) ∙ by-ltb (λ t. 0 ≡ cond t x y) k 2307 (λ _. sym ex) (λ _. sym ey))
+
+  begun-bit : (x y : ℕ) → begun .bits x y ≡ storedBit (opened s .bits) x y
+  unfolding opened blank
+  begun-bit x y = ap (λ (f : ℕ → ℕ → Bool). f x y) (slot-bits blank 0 3 (settingsWords s)) ∙ by-table (λ t. false ≡ t) (opened s .bits) x y (λ _. refl) (λ _ _. refl) (λ _ _. refl)
+
+  begun-same : SameContents begun (contentsOf (opened s))
+  unfolding contentsOf opened
+  begun-same = record { words = λ k l. begun-word k; bits = λ x y hx hy. begun-bit x y }
+
+  pub started : (m : List ℕ) → Whole m → {d e : List ℕ} → d ≡ cleared m → e ≡ slotSet d 0 3 (settingsWords s) → Fit e → e ≡ image (opened s)
+  started m whole {d} {e} v q fit =
+      let h : Holds d blank = holds-by (holds-cleared m whole) v in
+      written (opened s) e (holds-by (holds-as (holds-slot h 0 3 (settingsWords s) (omega arith) (omega arith)) (contentsOf (opened s)) begun-same) q) fit

@@ -1,0 +1,2 @@
+-- The laws behind the proofs of `container_changes`.
+pub mod ContainerLaws

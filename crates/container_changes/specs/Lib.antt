@@ -1,0 +1,2 @@
+-- What the contracts of `container_changes` cite.
+pub mod OneContainer

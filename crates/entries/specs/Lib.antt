@@ -1,0 +1,2 @@
+-- What the contracts of `entries` cite.
+pub mod Entries

@@ -1,4 +1,0 @@
--- What the contracts of `lister` cite.
-pub mod Input
-pub mod Text
-pub mod Sheet

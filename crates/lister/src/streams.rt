@@ -1,0 +1,77 @@
+// Standard input and output, read and written on where a call failed only for now.
+ghost use Prim.Native.Nat.{_≤_};
+ghost use lib.ListN.{length};
+ghost use Rattle.libc.specs.Io.{Moved};
+use libc::STDIN_FILENO;
+use libc::STDOUT_FILENO;
+use libc::types::timespec;
+
+// How often a call that failed for now is made again, with a pause before each.
+const TRIES: u32 = 1000;
+
+// Waits for the time asked, or until a signal comes.
+fn sleep(asked: timespec) {
+    let mut left = asked;
+    libc::nanosleep(&asked, &mut left);
+}
+
+// Waits for ten milliseconds.
+fn pause() {
+    sleep(timespec {
+        tv_sec: 0,
+        tv_nsec: 10000000,
+    });
+}
+
+// Whether the last call failed for now: a signal came, or a descriptor that does not wait has nothing yet, or no room.
+fn failed_for_now() -> bool {
+    let error = os::errno();
+    (error == libc::EINTR) | (error == libc::EAGAIN)
+}
+
+// Reads some bytes of standard input: how many, 0 at the end, below 0 where that failed.
+pub fn read(bytes: &mut [u8]) -> isize
+    ensures { λ r. ⌜ Moved (length (now (bytes .entry))) r ⌝ }
+{
+    let mut tries = 0;
+    while tries < TRIES {
+        let got = libc::read(STDIN_FILENO, bytes);
+        if (got >= 0) | !failed_for_now() {
+            return got;
+        }
+        pause();
+        tries += 1;
+    }
+    libc::read(STDIN_FILENO, bytes)
+}
+
+// Writes some of the bytes to standard output: how many, 0 where that failed.
+fn write_some(bytes: &[u8]) -> usize
+    ensures { λ r. ⌜ r ≤ length (now (bytes .entry)) ⌝ }
+{
+    let mut tries = 0;
+    while tries < TRIES {
+        let put = io::count(libc::write(STDOUT_FILENO, bytes), bytes);
+        if (put > 0) | !failed_for_now() {
+            return put;
+        }
+        pause();
+        tries += 1;
+    }
+    io::count(libc::write(STDOUT_FILENO, bytes), bytes)
+}
+
+// Writes the bytes before `end` to standard output, a short write written on; whether all were written.
+pub fn write(out: &[u8], end: usize) -> bool
+    requires { ⌜ end ≤ length (now out) ⌝ }
+{
+    let mut at = 0;
+    while at < end {
+        let put = write_some(&out[at..end]);
+        if put == 0 {
+            return false;
+        }
+        at += put;
+    }
+    true
+}

@@ -1,0 +1,2 @@
+-- The laws behind the proofs of `policy_changes`.
+pub mod PolicyLaws

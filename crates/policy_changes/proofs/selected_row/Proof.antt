@@ -1,0 +1,18 @@
+-- `policy_changes::selected_row` meets its contract. Assumes nothing.
+use mathlib.Core.Path.{ap, _∙_}
+use Rattle.sets.specs.Sets.{partSet}
+use Rattle.sets.proofs.Candidates.{selects-within, selected-set}
+use Rattle.policy_changes.proofs.selected_row.Statement.{statement}
+use Rattle.policy_changes.proofs.selected_row.Tie as tie
+
+part-row-requires : tie.Need-part-row-requires
+part-row-requires c κs = let p = c .before .pre in (p .0, p .1, selects-within _ (p .0))
+
+returns : tie.Need-returns
+returns c =
+    let x = c .before .before .args in
+    let p = c .before .before .pre in
+    c .part-row .ensures ∙ ap (λ s. partSet (x .memory .now) s 1 (x .q)) (p .2) ∙ selected-set (x .memory .now) (x .q) (p .1)
+
+pub selected-row-spec : {M : Type 1} → statement M
+selected-row-spec = tie.close (tie.spec part-row-requires returns)

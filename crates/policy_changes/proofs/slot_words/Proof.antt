@@ -1,0 +1,24 @@
+-- `policy_changes::slot_words` meets its contract. Assumes nothing.
+use borrow.Author.Needs.{needs}
+use Rattle.policy_changes.proofs.PolicyLaws.{slot-words}
+use Rattle.policy_changes.proofs.slot_words.Statement.{statement}
+use Rattle.policy_changes.proofs.slot_words.Tie as tie
+
+returns : tie.Need-returns
+returns c = slot-words (c .before .before .pre .0)
+
+pub slot-words-spec : {M : Type 1} → statement M
+slot-words-spec =
+    tie.close
+    (tie.spec
+    (λ c. search needs)
+    (λ c. search needs)
+    (λ c. search needs)
+    (λ c. search needs)
+    (λ c. search needs)
+    (λ c. search needs)
+    (λ c. search needs)
+    (λ c. search needs)
+    (λ c. search needs)
+    (λ c. search needs)
+    returns)

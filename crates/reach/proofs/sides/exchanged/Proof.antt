@@ -1,0 +1,11 @@
+-- `reach::sides::exchanged` meets its contract. Assumes nothing.
+use borrow.Author.Needs.{needs}
+use mathlib.Core.Path.{refl}
+use Rattle.reach.proofs.sides.exchanged.Statement.{statement}
+use Rattle.reach.proofs.sides.exchanged.Tie as tie
+
+returns : tie.Need-returns
+returns c = record { standing = refl; out = refl; back = refl; chosen = c .union-of .ensures }
+
+pub exchanged-spec : {M : Type 1} → statement M
+exchanged-spec = tie.close (tie.spec (λ c κs. search needs) returns)

@@ -1,0 +1,32 @@
+use borrow.Author.Needs.{needs}
+use mathlib.Core.Path.{sym, ap, _∙_}
+use Rattle.registry.specs.Answers.{putAnswer}
+use Rattle.registry_c.specs.Codes.{codeOf}
+use Rattle.registry_c.proofs.CodeLaws.{coded, put-coded}
+use Rattle.registry_c.proofs.bihokura_findings.Statement.{statement}
+use Rattle.registry_c.proofs.bihokura_findings.Tie as tie
+
+returns : tie.Need-returns
+returns c =
+    let d = c .before .before .before .before .before .before in
+    let h = d .findings .ensures in
+    (coded _ _ _ _ (putAnswer (d .findings .result) _) (h .0) (c .refused .ensures ∙ ap (λ o. codeOf (putAnswer o (d .findings .last .1 .1 .0))) (sym (c .before .before .answer .given .1))), h .1 .1)
+
+returns-2 : tie.Need-returns-2
+returns-2 c =
+    let d = c .before .before .before .before .before in
+    let h = d .findings .ensures in
+    (coded _ _ _ _ (putAnswer (d .findings .result) _) (h .0) (put-coded _ _ _ _ _ _ (c .before .answer2 .given .1) (h .0) (h .1 .0)), h .1 .1)
+
+pub bihokura-findings-spec : {M : Type 1} → statement M
+bihokura-findings-spec =
+    tie.close
+    (tie.spec
+    (λ c κs. search needs)
+    (λ c. search needs)
+    (λ c κs. search needs)
+    (λ c. search needs)
+    (λ c. search needs)
+    returns
+    (λ c. search needs)
+    returns-2)

@@ -1,0 +1,3 @@
+-- The laws of candidate sets and of label rows.
+pub mod Candidates
+pub mod LabelLaws

@@ -1,0 +1,3 @@
+-- What the contracts of `sets` cite.
+pub mod Sets
+pub mod Labels

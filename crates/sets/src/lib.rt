@@ -1,0 +1,107 @@
+// Candidate sets by the entries: what each policy selects and allows.
+mod labels;
+
+ghost use mathlib.Core.Path.{_≡_};
+ghost use mathlib.Core.Bool.{true};
+ghost use Prim.Native.Nat.{_<_};
+ghost use Rattle.bitrow.specs.Bit.{bitAt};
+ghost use Rattle.model.specs.Table.{stands};
+ghost use Rattle.model.specs.Model.{policySlots};
+ghost use Rattle.formed.specs.Registry.{modelIn, wellFormed};
+ghost use Rattle.sets.specs.Sets.{RowsAre, EmptyBut, KnownSets, SetsOf, partSet, PartsWithin};
+ghost use Rattle.sets.specs.Labels.{LabelRows};
+
+// Of the candidates, those that the part at an offset of policy q's slot matches; none where the slot is free.
+pub fn part_row(memory: &[u64], q: usize, offset: usize, candidates: [u64; 4]) -> [u64; 4]
+    requires { ⌜ (wellFormed (now memory) ≡ true) × (q < 128) × PartsWithin (now memory) offset ⌝ }
+    ensures { λ r. ⌜ bitAt r ≡ partSet (now (memory .entry)) (bitAt candidates) offset q ⌝ }
+{
+    let at = store::POLICIES + 11 * q;
+    if memory[at] == 0 {
+        return bitrow::none();
+    }
+    entries::trial(memory, at + offset, candidates)
+}
+
+// The same by the label rows.
+fn part_by_labels(
+    memory: &[u64],
+    table: &[u64; 1024],
+    rows: &[[u64; 4]; 1024],
+    q: usize,
+    offset: usize,
+    candidates: [u64; 4],
+) -> [u64; 4]
+    requires { ⌜ (wellFormed (now memory) ≡ true) × (q < 128) × PartsWithin (now memory) offset × LabelRows (now memory) (now table) 256 (now rows) ⌝ }
+    ensures { λ r. ⌜ bitAt r ≡ partSet (now (memory .entry)) (bitAt candidates) offset q ⌝ }
+{
+    let at = store::POLICIES + 11 * q;
+    if memory[at] == 0 {
+        return bitrow::none();
+    }
+    labels::matching(memory, table, rows, at + offset, candidates)
+}
+
+// Such a row for each policy but `known`, whose row is there already.
+fn fill(
+    sets: &mut [[u64; 4]; 128],
+    known: usize,
+    memory: &[u64],
+    table: &[u64; 1024],
+    rows: &[[u64; 4]; 1024],
+    offset: usize,
+    candidates: [u64; 4],
+)
+    requires { ⌜ (wellFormed (now memory) ≡ true) × PartsWithin (now memory) offset × LabelRows (now memory) (now table) 256 (now rows) ⌝ }
+    requires { ⌜ EmptyBut policySlots known (partSet (now memory) (bitAt candidates) offset) (now sets) ⌝ }
+    ensures { λ u. ⌜ RowsAre 128 (partSet (now (memory .entry)) (bitAt candidates) offset) (now (sets .exit)) ⌝ }
+{
+    let mut next = 0;
+    while next < 128 {
+        let q = next;
+        next += 1;
+        if q != known {
+            let row = part_by_labels(memory, table, rows, q, offset, candidates);
+            sets[q] = row;
+        }
+    }
+}
+
+// What each policy selects and what it allows, by the label rows; the sets of the policy `known` are there already.
+fn fill_by_labels(
+    memory: &[u64],
+    standing: [u64; 4],
+    known: usize,
+    selected: &mut [[u64; 4]; 128],
+    allowed: &mut [[u64; 4]; 128],
+)
+    requires { ⌜ (wellFormed (now memory) ≡ true) × (bitAt standing ≡ stands (modelIn (now memory) .containers)) ⌝ }
+    requires { ⌜ KnownSets (modelIn (now memory)) known (now selected) (now allowed) ⌝ }
+    ensures { λ u. ⌜ SetsOf (modelIn (now (memory .entry))) (now (selected .exit)) (now (allowed .exit)) ⌝ }
+{
+    let mut table = [0u64; 1024];
+    let mut rows = [[0u64; 4]; 1024];
+    labels::enter_all(&mut table, memory);
+    labels::mark_all(&mut rows, &table, memory);
+    fill(selected, known, memory, &table, &rows, 1, standing);
+    fill(allowed, known, memory, &table, &rows, 6, standing);
+}
+
+// What each policy selects and what it allows, into rows that are empty but for those of the policy `known` (128 where there is
+// none), whose sets are there already. Where no policy stands all rows stay as they are.
+pub fn fill_sets(
+    memory: &[u64],
+    standing: [u64; 4],
+    known: usize,
+    selected: &mut [[u64; 4]; 128],
+    allowed: &mut [[u64; 4]; 128],
+)
+    requires { ⌜ (wellFormed (now memory) ≡ true) × (bitAt standing ≡ stands (modelIn (now memory) .containers)) ⌝ }
+    requires { ⌜ KnownSets (modelIn (now memory)) known (now selected) (now allowed) ⌝ }
+    ensures { λ u. ⌜ SetsOf (modelIn (now (memory .entry))) (now (selected .exit)) (now (allowed .exit)) ⌝ }
+{
+    if bitrow::is_empty(formed::policies_standing(memory)) {
+        return;
+    }
+    fill_by_labels(memory, standing, known, selected, allowed);
+}

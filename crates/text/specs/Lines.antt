@@ -1,0 +1,45 @@
+-- The lines of the report, from document 01, "The program and one printed sheet". Assumes nothing.
+use mathlib.Core.List.{List, [], _∷_, _++_}
+use Prim.Native.Nat.{ℕ, _/_, _%_}
+use Rattle.model.specs.declared.Finding.{Finding}
+use Rattle.text.specs.Text.{decimal, space, newline, ended, named, threeNumbers}
+
+-- REFUSED
+abbrev refusedWord : List ℕ
+refusedWord = 82 ∷ 69 ∷ 70 ∷ 85 ∷ 83 ∷ 69 ∷ 68 ∷ []
+
+-- CONTAINERS
+abbrev containersWord : List ℕ
+containersWord = 67 ∷ 79 ∷ 78 ∷ 84 ∷ 65 ∷ 73 ∷ 78 ∷ 69 ∷ 82 ∷ 83 ∷ []
+
+-- POLICIES
+abbrev policiesWord : List ℕ
+policiesWord = 80 ∷ 79 ∷ 76 ∷ 73 ∷ 67 ∷ 73 ∷ 69 ∷ 83 ∷ []
+
+-- PAIRS
+abbrev pairsWord : List ℕ
+pairsWord = 80 ∷ 65 ∷ 73 ∷ 82 ∷ 83 ∷ []
+
+-- "A refused block n (from 1) gives `REFUSED n r`"
+unfoldable pub refusedLine : ℕ → ℕ → List ℕ
+refusedLine n r = named refusedWord n space ++ ended (decimal r) newline
+
+-- "one line with the standing counts and PAIRS"
+unfoldable pub countsLine : ℕ → ℕ → ℕ → List ℕ
+countsLine c q n = named containersWord c space ++ named policiesWord q space ++ named pairsWord n newline
+
+-- "each finding line being kind, a, b"
+unfoldable pub findingLine : Finding → List ℕ
+findingLine g = threeNumbers (g .kind) (g .a) (g .b)
+
+unfoldable pub findingLines : List Finding → List ℕ
+findingLines [] = []
+findingLines (g ∷ l) = findingLine g ++ findingLines l
+
+-- the line of a finding, from the finding as one number
+unfoldable pub codeLine : ℕ → List ℕ
+codeLine n = threeNumbers (n / 4294967296) (n / 65536 % 65536) (n % 65536)
+
+unfoldable pub codeLines : List ℕ → List ℕ
+codeLines [] = []
+codeLines (n ∷ l) = codeLine n ++ codeLines l

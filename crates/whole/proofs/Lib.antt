@@ -1,0 +1,2 @@
+-- The laws behind the proofs of `whole`.
+pub mod WholeLaws

@@ -1,0 +1,2 @@
+-- What the contracts of `whole` cite.
+pub mod StoredRows
