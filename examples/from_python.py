@@ -8,7 +8,7 @@ import sys
 
 library = ctypes.CDLL(sys.argv[1])
 u64, size = ctypes.c_uint64, ctypes.c_size_t
-for name in ("words", "open", "admit", "counts", "next_finding"):
+for name in ("words", "open", "admit", "counts", "findings"):
     getattr(library, "bihokura_" + name).restype = u64
 
 words = library.bihokura_words()
@@ -21,11 +21,14 @@ while block := sys.stdin.buffer.read(512):
         print("refused with", answer >> 56)
     first = False
 counts = library.bihokura_counts(memory, size(words))
+if counts >> 56:
+    sys.exit("no registry was opened")
 print("containers", counts & 0xFFFF, "policies", counts >> 16 & 0xFFFF, "pairs", counts >> 32)
-kind = a = b = 0
-while True:
-    found = library.bihokura_next_finding(memory, size(words), ctypes.c_uint16(kind), ctypes.c_uint16(a), ctypes.c_uint16(b))
-    if found == 0:
-        break
-    kind, a, b = found >> 32, found >> 16 & 0xFFFF, found & 0xFFFF
-    print(kind, a, b)
+room, last = 256, 0
+numbers = (u64 * room)()
+put = room
+while put == room:
+    place = [ctypes.c_uint16(n) for n in (last >> 32, last >> 16 & 0xFFFF, last & 0xFFFF)]
+    put = library.bihokura_findings(memory, size(words), *place, numbers, size(room))
+    for last in numbers[:put]:
+        print(last >> 32, last >> 16 & 0xFFFF, last & 0xFFFF)

@@ -1,10 +1,11 @@
 /* Bihokura: a proved register of containers and network policies.
  *
- * Every function takes the memory as a pointer and its number of 64-bit words, a block as a pointer and its length in bytes, and
- * answers one number. Its top byte is the refusal's number of document 01, 0 where the call was accepted; a refused call answers
- * nothing else and leaves everything lent as it was. Below the top byte stands what the call answers. No function keeps a pointer.
- * Memory of any size and any contents may be handed over, and blocks of any length; a pointer has to be valid for its length.
- * Nothing is allocated; a call takes less than 80 KiB of stack (docs/LINKING.md).
+ * Every function takes the memory as a pointer and its number of 64-bit words, a block as a pointer and its length in bytes, a
+ * list as a pointer and how many numbers it has room for, and answers one number. Its top byte is the refusal's number of
+ * document 01, 0 where the call was accepted; a refused call answers nothing else and leaves everything lent as it was. Below
+ * the top byte stands what the call answers. No function keeps a pointer. Memory of any size and any contents may be handed
+ * over, and blocks and lists of any length; a pointer has to be valid for its length. Nothing is allocated; a call takes less
+ * than 80 KiB of stack (docs/LINKING.md).
  */
 #ifndef BIHOKURA_H
 #define BIHOKURA_H
@@ -37,6 +38,11 @@ uint64_t bihokura_carries_user(const uint64_t *memory, size_t words, uint64_t sl
 
 /* The first finding after any three numbers, as kind * 2^32 + a * 2^16 + b; 0 if there is none. A walk begins at 0, 0, 0. */
 uint64_t bihokura_next_finding(const uint64_t *memory, size_t words, uint16_t kind, uint16_t a, uint16_t b);
+
+/* Puts the findings after any three numbers into the list, each as bihokura_next_finding codes it, as many as it has room for, and
+ * answers how many. The rest of the list is kept. Fewer than `numbers` means that no more come; else the next call begins at the
+ * last one put. */
+uint64_t bihokura_findings(const uint64_t *memory, size_t words, uint16_t kind, uint16_t a, uint16_t b, uint64_t *list, size_t numbers);
 
 /* Standing containers + standing policies * 2^16 + PAIRS * 2^32. */
 uint64_t bihokura_counts(const uint64_t *memory, size_t words);
