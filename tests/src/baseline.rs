@@ -585,6 +585,41 @@ pub fn next_after(m: &[u64], kind: u16, a: u16, b: u16) -> u64 {
     0
 }
 
+/// As many of the findings after three numbers as the list holds, the row of a kind at a slot worked out once; how many they are.
+pub fn findings_after(m: &[u64], kind: u16, a: u16, b: u16, list: &mut [u64]) -> usize {
+    let cs = standing(m, CONTAINERS, 9, 256);
+    let ps = standing(m, POLICIES, 11, 128);
+    let (mut kind, mut a, mut from, mut n) = (usize::from(kind), usize::from(a), usize::from(b) + 1, 0);
+    while kind < 8 && n < list.len() {
+        if kind == 0 || a >= 256 {
+            (kind, a, from) = (kind + 1, 0, 0);
+            continue;
+        }
+        let row = finding_row(m, &cs, &ps, kind, a);
+        let front = ((kind as u64) << 32) + ((a as u64) << 16);
+        for k in from / 64..4 {
+            let mut rest = if k == from / 64 { row[k] >> (from % 64) << (from % 64) } else { row[k] };
+            while rest != 0 {
+                if n == list.len() {
+                    return n;
+                }
+                list[n] = front + 64 * k as u64 + u64::from(rest.trailing_zeros());
+                n += 1;
+                rest &= rest - 1;
+            }
+        }
+        (a, from) = (a + 1, 0);
+    }
+    n
+}
+
+pub fn findings(m: &[u64], kind: u16, a: u16, b: u16, list: &mut [u64]) -> u64 {
+    match tested(m) {
+        Ok(()) => findings_after(m, kind, a, b, list) as u64,
+        Err(n) => refused(n),
+    }
+}
+
 pub fn next_finding(m: &[u64], kind: u16, a: u16, b: u16) -> u64 {
     match tested(m) {
         Ok(()) => next_after(m, kind, a, b),

@@ -3,36 +3,40 @@
 use crate::bytes::{self, Pair};
 use crate::c;
 use crate::random::Random;
-use crate::reference::{self, Call, Register, WORDS};
+use crate::reference::{self, Call, Left, Register, WORDS};
 
 /// The same call over the C interface.
-pub fn on_c(memory: &mut [u64], call: &Call) -> u64 {
-    match call {
-        Call::Open(block) => c::open(memory, block),
-        Call::Admit(block) => c::admit(memory, block),
-        Call::RemoveContainer(i) => c::remove_container(memory, *i),
-        Call::RemovePolicy(i) => c::remove_policy(memory, *i),
-        Call::Reaches(a, b) => c::reaches(memory, *a, *b),
-        Call::CarriesUser(i, v) => c::carries_user(memory, *i, *v),
-        Call::NextFinding(k, a, b) => c::next_finding(memory, *k, *a, *b),
-        Call::Counts => c::counts(memory),
-        Call::Rebuild => c::rebuild(memory),
-        Call::Audit => c::audit(memory),
-    }
+pub fn on_c(memory: &[u64], call: &Call) -> Left {
+    let (mut memory, mut list) = (memory.to_vec(), call.list());
+    let m = &mut memory[..];
+    let answer = match call {
+        Call::Open(block) => c::open(m, block),
+        Call::Admit(block) => c::admit(m, block),
+        Call::RemoveContainer(i) => c::remove_container(m, *i),
+        Call::RemovePolicy(i) => c::remove_policy(m, *i),
+        Call::Reaches(a, b) => c::reaches(m, *a, *b),
+        Call::CarriesUser(i, v) => c::carries_user(m, *i, *v),
+        Call::NextFinding(k, a, b) => c::next_finding(m, *k, *a, *b),
+        Call::Findings(k, a, b, _) => c::findings(m, *k, *a, *b, &mut list),
+        Call::Counts => c::counts(m),
+        Call::Rebuild => c::rebuild(m),
+        Call::Audit => c::audit(m),
+    };
+    Left { memory, list, answer }
 }
 
 /// Where the two registers differ on one call, if they do: the answer, or a word left behind.
 pub fn differs(memory: &[u64], call: &Call) -> Result<Vec<u64>, String> {
-    let mut left = memory.to_vec();
-    let answer = on_c(&mut left, call);
-    let (expected, said) = reference::step(memory, call);
-    if answer != said {
-        return Err(format!("answer {answer:#x}, expected {said:#x}"));
+    let (left, expected) = (on_c(memory, call), reference::step(memory, call));
+    if left.answer != expected.answer {
+        return Err(format!("answer {:#x}, expected {:#x}", left.answer, expected.answer));
     }
-    match (0..expected.len()).find(|i| left[*i] != expected[*i]) {
-        Some(i) => Err(format!("word {i} is {:#x}, expected {:#x}", left[i], expected[i])),
-        None => Ok(left),
+    for (what, x, y) in [("word", &left.memory, &expected.memory), ("number", &left.list, &expected.list)] {
+        if let Some(i) = (0..y.len()).find(|i| x[*i] != y[*i]) {
+            return Err(format!("{what} {i} is {:#x}, expected {:#x}", x[i], y[i]));
+        }
     }
+    Ok(left.memory)
 }
 
 /// Runs the calls from a memory on both registers; the number of the first call that differs, and how.
@@ -73,6 +77,7 @@ fn show(call: &Call) -> String {
     match call {
         Call::Open(b) => format!("  open {}", front(b)),
         Call::Admit(b) => format!("  admit {}", front(b)),
+        Call::Findings(k, a, b, list) => format!("  findings after {k} {a} {b}, a list of {}", list.len()),
         other => format!("  {other:?}"),
     }
 }
@@ -137,8 +142,28 @@ fn slot(r: &mut Random) -> u64 {
     }
 }
 
+/// Any three numbers, more often such as a finding has.
+pub fn cursor(r: &mut Random) -> (u16, u16, u16) {
+    let any = |r: &mut Random| if r.once_in(6) { r.below(65536) as u16 } else { r.below(12) as u16 };
+    let kind = if r.once_in(12) { r.below(65536) } else { r.below(9) };
+    (kind as u16, any(r), any(r))
+}
+
+/// So many random words.
+pub fn words(r: &mut Random, n: usize) -> Vec<u64> {
+    (0..n).map(|_| r.next()).collect()
+}
+
+/// Lengths of lists for findings.
+pub const LISTS: [usize; 7] = [0, 1, 2, 255, 256, 257, 70_000];
+
+pub fn findings(r: &mut Random, n: usize) -> Call {
+    let (k, a, b) = cursor(r);
+    Call::Findings(k, a, b, words(r, n))
+}
+
 pub fn call(r: &mut Random) -> Call {
-    match r.below(30) {
+    match r.below(32) {
         0..=8 => Call::Admit(container(r)),
         9..=13 => Call::Admit(policy(r)),
         14 => Call::Admit(damaged(r)),
@@ -147,8 +172,8 @@ pub fn call(r: &mut Random) -> Call {
         19 | 20 => Call::Reaches(slot(r), slot(r)),
         21 | 22 => Call::CarriesUser(slot(r), *r.pick(&[0, 1, 2, 3, 4, 65535, 65536, 65537, 131073, u64::MAX])),
         23 | 24 => {
-            let any = |r: &mut Random| if r.once_in(6) { r.below(65536) as u16 } else { r.below(12) as u16 };
-            Call::NextFinding(r.below(9) as u16, any(r), any(r))
+            let (k, a, b) = cursor(r);
+            Call::NextFinding(k, a, b)
         }
         25 => Call::Counts,
         26 => Call::Rebuild,
@@ -159,6 +184,10 @@ pub fn call(r: &mut Random) -> Call {
             } else {
                 Call::Open(damaged(r))
             }
+        }
+        29 | 30 => {
+            let n = if r.once_in(3) { *r.pick(&LISTS) } else { r.below(40) as usize };
+            findings(r, n)
         }
         _ => Call::Admit(damaged(r)),
     }

@@ -441,28 +441,48 @@ pub enum Call {
     Reaches(u64, u64),
     CarriesUser(u64, u64),
     NextFinding(u16, u16, u16),
+    /// With the words of the list that is lent.
+    Findings(u16, u16, u16, Vec<u64>),
     Counts,
     Rebuild,
     Audit,
 }
 
-/// What a call leaves of the memory it was lent, and its answer.
-pub fn step(memory: &[u64], call: &Call) -> (Vec<u64>, u64) {
-    let same = |n: u64| (memory.to_vec(), refused(n));
+impl Call {
+    /// The list that the call is lent; no other call than `Findings` is lent one.
+    pub fn list(&self) -> Vec<u64> {
+        match self {
+            Call::Findings(_, _, _, list) => list.clone(),
+            _ => Vec::new(),
+        }
+    }
+}
+
+/// What a call leaves of the memory and of the list it was lent, and its answer.
+#[derive(Clone, PartialEq, Eq, Debug)]
+pub struct Left {
+    pub memory: Vec<u64>,
+    pub list: Vec<u64>,
+    pub answer: u64,
+}
+
+pub fn step(memory: &[u64], call: &Call) -> Left {
+    let same = |n: u64| Left { memory: memory.to_vec(), list: call.list(), answer: refused(n) };
     if memory.len() != WORDS {
         return same(1);
     }
+    let mut list = call.list();
     if let Call::Open(block) = call {
         return match read_settings(block) {
-            Ok(s) => (Register::opened(s).encode(), 0),
+            Ok(s) => Left { memory: Register::opened(s).encode(), list, answer: 0 },
             Err(n) => same(n),
         };
     }
     let Some(mut r) = Register::decode(memory) else {
         return same(2);
     };
-    match run(&mut r, call) {
-        Ok(answer) => (r.encode(), answer),
+    match run(&mut r, call, &mut list) {
+        Ok(answer) => Left { memory: r.encode(), list, answer },
         Err(n) => same(n),
     }
 }
@@ -477,7 +497,16 @@ fn slot(table: usize, stands: impl Fn(usize) -> bool, i: u64) -> Result<usize, u
     Ok(i as usize)
 }
 
-fn run(r: &mut Register, call: &Call) -> Result<u64, u64> {
+/// A finding as one number, and back.
+pub fn code((kind, a, b): Finding) -> u64 {
+    (u64::from(kind) << 32) + (u64::from(a) << 16) + u64::from(b)
+}
+
+pub fn numbers(code: u64) -> Finding {
+    ((code >> 32) as u16, (code >> 16) as u16, code as u16)
+}
+
+fn run(r: &mut Register, call: &Call, list: &mut [u64]) -> Result<u64, u64> {
     match call {
         Call::Open(_) => unreachable!(),
         Call::Admit(block) => match read_entry(block)? {
@@ -519,11 +548,14 @@ fn run(r: &mut Register, call: &Call) -> Result<u64, u64> {
             let label = Label { key: r.settings.user_key, value: *v };
             Ok(u64::from(r.containers[c].as_ref().unwrap().contains(&label)))
         }
-        Call::NextFinding(k, a, b) => Ok(r
-            .findings()
-            .iter()
-            .find(|f| **f > (*k, *a, *b))
-            .map_or(0, |(k, a, b)| (u64::from(*k) << 32) + (u64::from(*a) << 16) + u64::from(*b))),
+        Call::NextFinding(k, a, b) => Ok(r.findings().into_iter().find(|f| *f > (*k, *a, *b)).map_or(0, code)),
+        Call::Findings(k, a, b, _) => {
+            let after: Vec<Finding> = r.findings().into_iter().filter(|f| *f > (*k, *a, *b)).take(list.len()).collect();
+            for (i, f) in after.iter().enumerate() {
+                list[i] = code(*f);
+            }
+            Ok(after.len() as u64)
+        }
         Call::Counts => Ok(r.standing().len() as u64
             + ((r.standing_policies().len() as u64) << 16)
             + ((r.matrix.len() as u64) << 32)),

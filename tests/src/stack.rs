@@ -56,6 +56,7 @@ pub fn calls(r: &Registry) -> Vec<(&'static str, usize)> {
         ("bihokura_reaches", with(&|m| c::reaches(m, 0, 1))),
         ("bihokura_carries_user", with(&|m| c::carries_user(m, 0, 1))),
         ("bihokura_next_finding", with(&|m| (0..=7).map(|kind| c::next_finding(m, kind, 0, 0)).max().unwrap())),
+        ("bihokura_findings", with(&|m| (0..=7).map(|kind| c::findings(m, kind, 0, 0, &mut [0; 256])).max().unwrap())),
         ("bihokura_counts", with(&|m| c::counts(m))),
         ("bihokura_rebuild", with(&|m| c::rebuild(m))),
         ("bihokura_audit", with(&|m| c::audit(m))),

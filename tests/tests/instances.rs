@@ -11,9 +11,9 @@ struct Run {
 
 impl Run {
     fn ask(&mut self, case: u64, call: Call) {
-        let (left, answer) = step(&self.memory, &call);
-        self.memory = left;
-        let (refusal, value) = (answer >> 56, answer & ((1 << 56) - 1));
+        let left = step(&self.memory, &call);
+        self.memory = left.memory;
+        let (refusal, value) = (left.answer >> 56, left.answer & ((1 << 56) - 1));
         if refusal == 0 && call == Call::Counts {
             self.write(format!("{case} 0 {}", value & 0xffff));
             self.write(format!("{case} 0 {}", (value >> 16) & 0xffff));
@@ -139,7 +139,7 @@ fn freeing(r: &mut Run) {
 fn filling(r: &mut Run) {
     let silently = |r: &mut Run, block: Vec<u8>, times: usize| {
         for _ in 0..times {
-            r.memory = step(&r.memory, &Call::Admit(block.clone())).0;
+            r.memory = step(&r.memory, &Call::Admit(block.clone())).memory;
         }
     };
     let (two, from_one) = (container(&run_of(2, 1)), policy(2, &[(1, 1)], &[(2, 1)]));

@@ -3,8 +3,9 @@
 
 use bihokura_tests::bytes::{container, policy, sealed, settings};
 use bihokura_tests::cases::on_c;
-use bihokura_tests::reference::{refused, step, Call, WORDS};
+use bihokura_tests::reference::{refused, step, Call, Left, WORDS};
 
+const ZEROS: [u64; WORDS + 1] = [0; WORDS + 1];
 const INGRESS: u8 = 1;
 const EGRESS: u8 = 2;
 
@@ -16,12 +17,17 @@ fn meets(kind: u64, a: u64, b: u64) -> u64 {
     (kind << 32) + (a << 16) + b
 }
 
-/// A call and its answer: lent our memory, or as many words of zero as are not our size.
-struct Line(usize, Call, u64);
+/// A call and its answer: lent our memory, or as many words of zero as are not our size; and what it puts into its list.
+struct Line(usize, Call, u64, Vec<u64>);
+
+/// What stands in a list before it is lent.
+const BEFORE: u64 = 77;
 
 fn listed() -> Vec<Line> {
-    let ours = |call, answer| Line(WORDS, call, answer);
-    let other = |n, call| Line(n, call, refused(1));
+    let ours = |call, answer| Line(WORDS, call, answer, vec![]);
+    let other = |n, call| Line(n, call, refused(1), vec![]);
+    let listing = |(k, a, b), room| Call::Findings(k, a, b, vec![BEFORE; room]);
+    let puts = |call, put: &[u64]| Line(WORDS, call, put.len() as u64, put.to_vec());
     let con = |labels: &[(u16, u16)]| Call::Admit(container(labels));
     let pol = |d, s: &[(u16, u16)], a: &[(u16, u16)]| Call::Admit(policy(d, s, a));
     let next = Call::NextFinding;
@@ -30,6 +36,7 @@ fn listed() -> Vec<Line> {
     let mut list = vec![
         ours(Call::Counts, counted(0, 0, 0)),
         ours(next(0, 0, 0), 0),
+        puts(listing((0, 0, 0), 3), &[]),
         ours(Call::RemoveContainer(0), refused(11)),
         ours(con(&[(1, 11), (3, 1)]), 0),
         other(5762, con(&[(1, 11), (3, 2)])),
@@ -43,6 +50,11 @@ fn listed() -> Vec<Line> {
         ours(next(0, 0, 0), meets(3, 0, 2)),
         ours(next(4, 3, 1), meets(5, 1, 0)),
         ours(next(7, 2, 1), 0),
+        puts(listing((0, 0, 0), 3), &[meets(3, 0, 2), meets(3, 0, 3), meets(3, 2, 0)]),
+        puts(listing((3, 3, 2), 5), &[meets(4, 3, 1), meets(5, 1, 0), meets(7, 2, 1)]),
+        puts(listing((3, 2, 0), 0), &[]),
+        puts(listing((7, 2, 1), 1), &[]),
+        other(5762, listing((0, 0, 0), 3)),
         ours(Call::Reaches(1, 0), 0),
         ours(Call::Reaches(2, 1), 1),
         ours(Call::Reaches(4, 256), refused(10)),
@@ -88,30 +100,31 @@ fn listed() -> Vec<Line> {
     list
 }
 
-fn run(mut call: impl FnMut(&mut Vec<u64>, &Call) -> u64) {
-    let mut memory: Vec<u64> = (0..WORDS as u64).collect();
-    assert_eq!(call(&mut memory, &Call::Open(settings(1, 2, 9))), 0);
-    for (i, Line(size, asked, answer)) in listed().into_iter().enumerate() {
+fn run(call: impl Fn(&[u64], &Call) -> Left) {
+    let memory: Vec<u64> = (0..WORDS as u64).collect();
+    let opened = call(&memory, &Call::Open(settings(1, 2, 9)));
+    assert_eq!(opened.answer, 0);
+    let mut memory = opened.memory;
+    for (i, Line(size, asked, answer, put)) in listed().into_iter().enumerate() {
+        let left = call(if size == WORDS { &memory } else { &ZEROS[..size] }, &asked);
+        assert_eq!(left.answer, answer, "call {i}: {asked:?}");
+        let mut list = asked.list();
+        list[..put.len()].copy_from_slice(&put);
+        assert_eq!(left.list, list, "call {i}: {asked:?}");
         if size == WORDS {
-            assert_eq!(call(&mut memory, &asked), answer, "call {i}: {asked:?}");
+            memory = left.memory;
         } else {
-            let mut zeros = vec![0; size];
-            assert_eq!(call(&mut zeros, &asked), answer, "call {i}: {asked:?}");
-            assert_eq!(zeros, vec![0; size]);
+            assert_eq!(left.memory, ZEROS[..size]);
         }
     }
 }
 
 #[test]
 fn the_exported_calls_answer_as_computed() {
-    run(|m, call| on_c(m, call));
+    run(on_c);
 }
 
 #[test]
 fn the_reference_answers_as_computed() {
-    run(|m, call| {
-        let (left, answer) = step(m, call);
-        *m = left;
-        answer
-    });
+    run(step);
 }

@@ -7,9 +7,9 @@ fn run(calls: &[Call]) -> (Vec<u64>, Vec<u64>) {
     let mut m = vec![0; WORDS];
     let mut answers = Vec::new();
     for call in calls {
-        let (left, answer) = step(&m, call);
-        m = left;
-        answers.push(answer);
+        let left = step(&m, call);
+        m = left.memory;
+        answers.push(left.answer);
     }
     (m, answers)
 }

@@ -3,6 +3,7 @@
 //! the number of entries.
 
 use bihokura_tests::baseline::{self as b, ByLabels, ByTrials};
+use bihokura_tests::reference::numbers;
 use bihokura_tests::registries::{self, settings, Registry};
 use bihokura_tests::{bytes, c, clock};
 use std::cell::RefCell;
@@ -188,8 +189,24 @@ fn walk(m: &[u64], next: impl Fn(&[u64], u16, u16, u16) -> u64) -> u64 {
         if f == 0 {
             return n;
         }
-        (k, x, y) = ((f >> 32) as u16, (f >> 16) as u16, f as u16);
+        (k, x, y) = numbers(f);
         n += 1;
+    }
+}
+
+const BY_LISTS: &str = "a whole walk by findings, 256 at a time";
+
+/// The same, 256 findings at a time.
+fn walk_by_lists(m: &[u64], findings: impl Fn(&[u64], u16, u16, u16, &mut [u64]) -> u64) -> u64 {
+    let (mut k, mut x, mut y, mut n) = (0, 0, 0, 0);
+    let mut list = [0; 256];
+    loop {
+        let more = findings(m, k, x, y, &mut list);
+        n += more;
+        if more < 256 {
+            return n;
+        }
+        (k, x, y) = numbers(list[255]);
     }
 }
 
@@ -213,7 +230,13 @@ fn others(full: &[u64], r: &Registry) -> Vec<Line> {
             &|m, _| walk(m, b::next_finding),
             &|m, _| walk(m, b::next_finding),
         ]),
+        still(BY_LISTS, &m, [
+            &|m, _| walk_by_lists(m, c::findings),
+            &|m, _| walk_by_lists(m, b::findings),
+            &|m, _| walk(m, b::next_finding),
+        ]),
     ];
+    assert_eq!(walk_by_lists(full, c::findings), walk(full, b::next_finding));
     assert!(*m.borrow() == full);
     let first = settings();
     lines.push(still("open", &m, sides!(|_| open(&first))));
@@ -274,13 +297,15 @@ fn lister(r: &Registry, containers: usize, policies: usize) -> Line {
 }
 
 /// The bars of a call: to the same algorithms and to those of the first release. Registries 6 and 7 are made against the hash, and
-/// in 5 as many labels stand as there are places (docs/DECISIONS.md, 34); lister has none yet.
+/// in 5 as many labels stand as there are places (docs/DECISIONS.md, 34); lister has none to the same.
 fn bars(name: &str, registry: &str) -> (f64, f64) {
     let release = match name {
         "rebuild" | "audit" => if registry < "6" { 0.15 } else { 1.0 },
         "admit a container" => if registry < "5" { 0.15 } else { 1.0 },
         _ if name.contains("gress") => if registry < "5" { 0.15 } else { 1.0 },
         _ if name.starts_with("filling") => 1.0,
+        BY_LISTS => 0.08,
+        "lister" => 1.0 / 3.0,
         _ => f64::INFINITY,
     };
     (if name == "lister" { f64::INFINITY } else { 1.2 }, release)

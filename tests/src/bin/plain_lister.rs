@@ -1,18 +1,25 @@
 //! lister in plain Rust over the baseline, for `bench`: the same input, the same lines. `plain_lister trials` works by the first
-//! release's algorithms, `plain_lister labels` by the register's.
+//! release's algorithms and works a row out again at each finding, `plain_lister labels` by the register's.
 
 use bihokura_tests::baseline::{self as b, Algorithms, ByLabels, ByTrials};
+use bihokura_tests::reference::numbers;
 use std::io::{Read, Write};
 
 fn main() {
     match std::env::args().nth(1).as_deref() {
-        Some("trials") => list::<ByTrials>(),
-        Some("labels") => list::<ByLabels>(),
+        Some("trials") => list::<ByTrials>(|m, kind, a, b, some| {
+            some[0] = b::next_after(m, kind, a, b);
+            usize::from(some[0] != 0)
+        }),
+        Some("labels") => list::<ByLabels>(b::findings_after),
         _ => panic!("plain_lister trials or plain_lister labels"),
     }
 }
 
-fn list<A: Algorithms>() {
+/// Some of the findings after three numbers, put at the start of a list, and how many they are: none where no more come.
+type Listing = fn(&[u64], u16, u16, u16, &mut [u64]) -> usize;
+
+fn list<A: Algorithms>(findings: Listing) {
     let mut input = Vec::new();
     std::io::stdin().read_to_end(&mut input).unwrap();
     let mut out = std::io::BufWriter::with_capacity(65536, std::io::stdout().lock());
@@ -33,12 +40,15 @@ fn list<A: Algorithms>() {
     let n = b::counts(&m);
     writeln!(out, "CONTAINERS {} POLICIES {} PAIRS {}", n & 0xffff, (n >> 16) & 0xffff, n >> 32).unwrap();
     let (mut k, mut x, mut y) = (0, 0, 0);
+    let mut some = [0; 256];
     loop {
-        let f = b::next_after(&m, k, x, y);
-        if f == 0 {
+        let n = findings(&m, k, x, y, &mut some);
+        if n == 0 {
             return;
         }
-        (k, x, y) = ((f >> 32) as u16, (f >> 16) as u16, f as u16);
-        writeln!(out, "{k} {x} {y}").unwrap();
+        for f in &some[..n] {
+            (k, x, y) = numbers(*f);
+            writeln!(out, "{k} {x} {y}").unwrap();
+        }
     }
 }
