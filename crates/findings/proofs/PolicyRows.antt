@@ -6,7 +6,7 @@ use Prim.Native.Nat.{ℕ, _≤_, _<_}
 use native.Mathlib.Decide.{ℕ-discrete}
 use native.Mathlib.Omega.{arith}
 use lib.Dec.{eqb, ltb}
-use borrow.Author.Tests.{eq-eqb, ne-eqb}
+use borrow.Author.Tests.{eq-eqb, ne-eqb, le-ltb}
 use Rattle.bitrow.specs.Bit.{bitAt}
 use Rattle.bitrow.specs.Set.{nothing, meet, hasSome, part}
 use Rattle.bitrow.proofs.Sets.{meet-at}
@@ -37,6 +37,27 @@ module _ (k : ℕ) (m : List ℕ) (a b : ℕ) where
   pub comparison-6 : (k ≡ 5 → ⊥) → comparison k m a b ≡ conflict (modelIn m) (bitsIn m) a b
   unfolding comparison
   comparison-6 e = ap said (ne-eqb k 5 e)
+
+  -- a conflict is listed once, at the lower of the two
+  pub comparison-below : (k ≡ 5 → ⊥) → b ≤ a → comparison k m a b ≡ false
+  unfolding conflict
+  comparison-below e h = comparison-6 e ∙ shut (ltb a b) _ (le-ltb a b h)
+    where
+      shut : (x y : Bool) → x ≡ false → (x && y) ≡ false
+      shut x y q = ap (λ t. t && y) q
+
+  -- policies of different directions
+  pub comparison-apart : AtPolicy m a → AtPolicy m b → (wordAt m (policyStart b) ≡ wordAt m (policyStart a) → ⊥) → comparison k m a b ≡ false
+  unfolding comparison shadow conflict
+  comparison-apart p q h = pick (eqb k 5)
+    where
+      apart : (x y : Bool) → (x && (model.oneDirection (modelIn m) a b && y)) ≡ false
+      apart x y =
+          ap (λ t. x && (t && y)) (one-direction m (p .formed) a b (p .here) (q .here) ∙ ne-eqb (wordAt m (policyStart b)) (wordAt m (policyStart a)) h) ∙ and-false x
+
+      pick : (t : Bool) → said t ≡ false
+      pick true = apart (not (eqb a b)) _
+      pick false = apart (ltb a b) _
 
 module _ (m : List ℕ) (ok : wellFormed m ≡ true) where
   some-selected : (a : ℕ) → any (bitsIn m .selected a) (standing (modelIn m .containers)) ≡ hasSome (bitsIn m .selected a)

@@ -36,13 +36,19 @@ fn conflict_at(memory: &[u64], a: usize, b: usize, who: [u64; 4], whom: [u64; 4]
     (a < b) & (one_way & (!apart & (!idle & disjoint)))
 }
 
-// Whether a and b make a finding of kind 5, or else 6.
+// Whether a and b make a finding of kind 5, or else 6. What can be told without their sets is told first.
 fn compare(memory: &[u64], kind: usize, a: usize, b: usize, who: [u64; 4], whom: [u64; 4]) -> bool
     requires { ⌜ Compared (now memory) who whom a × AtPolicy (now memory) b ⌝ }
     ensures { λ r. ⌜ r ≡ comparison kind (now (memory .entry)) a b ⌝ }
 {
+    if memory[store::POLICIES + 11 * b] != memory[store::POLICIES + 11 * a] {
+        return false;
+    }
     if kind == 5 {
         return shadow_at(memory, a, b, who, whom);
+    }
+    if b <= a {
+        return false;
     }
     conflict_at(memory, a, b, who, whom)
 }
