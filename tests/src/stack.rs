@@ -46,6 +46,8 @@ pub fn calls(r: &Registry) -> Vec<(&'static str, usize)> {
         let mut m = from.to_vec();
         taken(&mut || { black_box(c::admit(&mut m, block)); })
     };
+    let mut list = vec![0; 256];
+    let listed = taken(&mut || (0..=7).for_each(|kind| { black_box(c::findings(&full, kind, 0, 0, &mut list)); }));
     vec![
         ("bihokura_open", with(&|m| c::open(m, &settings()))),
         ("bihokura_admit, a container", admitted(&room, &r.containers[slot])),
@@ -56,7 +58,7 @@ pub fn calls(r: &Registry) -> Vec<(&'static str, usize)> {
         ("bihokura_reaches", with(&|m| c::reaches(m, 0, 1))),
         ("bihokura_carries_user", with(&|m| c::carries_user(m, 0, 1))),
         ("bihokura_next_finding", with(&|m| (0..=7).map(|kind| c::next_finding(m, kind, 0, 0)).max().unwrap())),
-        ("bihokura_findings", with(&|m| (0..=7).map(|kind| c::findings(m, kind, 0, 0, &mut [0; 256])).max().unwrap())),
+        ("bihokura_findings", listed),
         ("bihokura_counts", with(&|m| c::counts(m))),
         ("bihokura_rebuild", with(&|m| c::rebuild(m))),
         ("bihokura_audit", with(&|m| c::audit(m))),
