@@ -4,8 +4,8 @@
  * list as a pointer and how many numbers it has room for, and answers one number. Its top byte is the refusal's number of
  * document 01, 0 where the call was accepted; a refused call answers nothing else and leaves everything lent as it was. Below
  * the top byte stands what the call answers. No function keeps a pointer. Memory of any size and any contents may be handed
- * over, and blocks and lists of any length; a pointer has to be valid for its length. Nothing is allocated; a call takes less
- * than 80 KiB of stack (docs/LINKING.md).
+ * over, and blocks and lists of any length; a pointer has to be valid for its length, and what one call is lent may not overlap.
+ * Nothing is allocated; a call takes less than 80 KiB of stack (docs/LINKING.md).
  */
 #ifndef BIHOKURA_H
 #define BIHOKURA_H
