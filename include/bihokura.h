@@ -23,7 +23,8 @@ uint64_t bihokura_words(void);
 /* Begins an empty registry under the settings of a block, whatever the memory held. Answers 0. */
 uint64_t bihokura_open(uint64_t *memory, size_t words, const uint8_t *block, size_t length);
 
-/* Admits the container or the policy of a block, and answers the slot that it took in its table. */
+/* Admits the container or the policy of a block, and answers the slot that it took: of the table that byte 0 of the block names, 67
+ * for containers and 80 for policies. The answer itself does not say which. */
 uint64_t bihokura_admit(uint64_t *memory, size_t words, const uint8_t *block, size_t length);
 
 /* Removes the entry of a slot. Answers 0. */

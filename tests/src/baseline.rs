@@ -2,7 +2,8 @@
 //! test of the whole memory before each call, candidate sets from the entries. It is what the benchmarks compare with, by either
 //! of two sets of algorithms: `ByTrials`, those of the first release, and `ByLabels`, those of the register today.
 
-use crate::reference::refused;
+use crate::answers::{answer, code, counted, refused, Finding};
+use crate::layout::{self, *};
 
 mod labels;
 mod trials;
@@ -10,12 +11,9 @@ mod trials;
 pub use labels::{first_place, ByLabels};
 pub use trials::ByTrials;
 
-pub const WORDS: usize = 5763;
-const CONTAINERS: usize = 3;
-const POLICIES: usize = 2307;
-const ROWS: usize = 3715;
+pub type Row = [u64; ROW_WORDS];
 
-pub type Row = [u64; 4];
+const EMPTY: Row = [0; ROW_WORDS];
 
 fn has(row: &Row, i: usize) -> bool {
     row[i / 64] >> (i % 64) & 1 == 1
@@ -47,7 +45,7 @@ fn within(a: Row, b: Row) -> bool {
 
 fn next_from(row: &Row, from: usize) -> Option<usize> {
     let mut at = from;
-    while at < 256 {
+    while at < CONTAINER_SLOTS {
         let w = row[at / 64] >> (at % 64);
         if w != 0 {
             return Some(at + w.trailing_zeros() as usize);
@@ -58,16 +56,16 @@ fn next_from(row: &Row, from: usize) -> Option<usize> {
 }
 
 fn row_at(m: &[u64], r: usize) -> Row {
-    let at = ROWS + 4 * r;
+    let at = layout::row(r);
     [m[at], m[at + 1], m[at + 2], m[at + 3]]
 }
 
 fn set_row(m: &mut [u64], r: usize, row: Row) {
-    m[ROWS + 4 * r..ROWS + 4 * r + 4].copy_from_slice(&row);
+    m[layout::row(r)..layout::row(r + 1)].copy_from_slice(&row);
 }
 
 fn set_bit(m: &mut [u64], r: usize, b: usize, bit: bool) {
-    let w = &mut m[ROWS + 4 * r + b / 64];
+    let w = &mut m[layout::row(r) + b / 64];
     *w = *w & !(1 << (b % 64)) | u64::from(bit) << (b % 64);
 }
 
@@ -80,8 +78,8 @@ fn part_ok(m: &[u64], at: usize, limit: usize) -> bool {
     }
     let mut last = 0;
     for w in &m[at + 1..at + head] {
-        let key = w >> 16;
-        if key <= last || key > 64 || w & 0xffff == 0 {
+        let key = key_of(*w);
+        if key <= last || key > 64 || value_of(*w) == 0 {
             return false;
         }
         last = key;
@@ -89,8 +87,14 @@ fn part_ok(m: &[u64], at: usize, limit: usize) -> bool {
     m[at + head..at + 1 + limit].iter().all(|w| *w == 0)
 }
 
-fn standing(m: &[u64], start: usize, words: usize, slots: usize) -> Row {
-    let mut row = [0; 4];
+/// A table: where it begins, the words of a slot, the slots.
+type Table = (usize, usize, usize);
+
+const CONTAINER_TABLE: Table = (CONTAINERS, CONTAINER_WORDS, CONTAINER_SLOTS);
+const POLICY_TABLE: Table = (POLICIES, POLICY_WORDS, POLICY_SLOTS);
+
+fn standing(m: &[u64], (start, words, slots): Table) -> Row {
+    let mut row = EMPTY;
     for i in 0..slots {
         if m[start + words * i] != 0 {
             put(&mut row, i);
@@ -103,31 +107,31 @@ pub fn well_formed(m: &[u64]) -> bool {
     if m.len() != WORDS {
         return false;
     }
-    let (user, key, value) = (m[0], m[1], m[2]);
+    let (user, key, value) = (m[USER_KEY], m[SYSTEM_KEY], m[SYSTEM_VALUE]);
     if user == 0 || user > 64 || key > 64 || value > 65535 || (key == 0) != (value == 0) {
         return false;
     }
-    for c in 0..256 {
-        let at = CONTAINERS + 9 * c;
-        let ok = if m[at] == 0 { m[at..at + 9].iter().all(|w| *w == 0) } else { part_ok(m, at, 8) };
+    for c in 0..CONTAINER_SLOTS {
+        let at = layout::container(c);
+        let ok = if m[at] == 0 { m[at..at + CONTAINER_WORDS].iter().all(|w| *w == 0) } else { part_ok(m, at, CONTAINER_LABELS) };
         if !ok {
             return false;
         }
     }
-    for q in 0..128 {
-        let at = POLICIES + 11 * q;
+    for q in 0..POLICY_SLOTS {
+        let at = layout::policy(q);
         let ok = if m[at] == 0 {
-            m[at..at + 11].iter().all(|w| *w == 0)
+            m[at..at + POLICY_WORDS].iter().all(|w| *w == 0)
         } else {
-            m[at] <= 2 && part_ok(m, at + 1, 4) && part_ok(m, at + 6, 4)
+            m[at] <= EGRESS && part_ok(m, at + SELECT, PART_LABELS) && part_ok(m, at + ALLOW, PART_LABELS)
         };
         if !ok {
             return false;
         }
     }
-    let cs = standing(m, CONTAINERS, 9, 256);
-    for r in 0..512 {
-        let owner = if r < 256 { m[CONTAINERS + 9 * r] } else { m[POLICIES + 11 * ((r - 256) / 2)] };
+    let cs = standing(m, CONTAINER_TABLE);
+    for r in 0..ROW_COUNT {
+        let owner = if r < CONTAINER_SLOTS { m[layout::container(r)] } else { m[layout::policy((r - CONTAINER_SLOTS) / 2)] };
         let row = row_at(m, r);
         if !(if owner != 0 { within(row, cs) } else { is_empty(&row) }) {
             return false;
@@ -168,12 +172,16 @@ fn frame(b: &[u8]) -> Result<(), u64> {
     for (i, x) in b[..510].iter().enumerate() {
         sum += u64::from(*x) * (i as u64 + 1);
     }
-    if number(b, 510) == sum % 65521 { Ok(()) } else { Err(4) }
+    if number(b, 510) == sum % 65521 {
+        Ok(())
+    } else {
+        Err(4)
+    }
 }
 
 /// Words of a part: the header, then the labels.
-fn labels(b: &[u8], at: usize, n: usize) -> ([u64; 9], bool, bool) {
-    let mut words = [0; 9];
+fn labels(b: &[u8], at: usize, n: usize) -> ([u64; CONTAINER_WORDS], bool, bool) {
+    let mut words = [0; CONTAINER_WORDS];
     words[0] = 1 + n as u64;
     let (mut range, mut order, mut last) = (true, true, 0);
     for k in 0..n {
@@ -181,14 +189,14 @@ fn labels(b: &[u8], at: usize, n: usize) -> ([u64; 9], bool, bool) {
         range &= (1..=64).contains(&key) && value != 0;
         order &= key > last;
         last = key;
-        words[k + 1] = key << 16 | value;
+        words[k + 1] = label_word(key, value);
     }
     (words, range, order)
 }
 
 pub enum Entry {
-    Container([u64; 9]),
-    Policy([u64; 11]),
+    Container([u64; CONTAINER_WORDS]),
+    Policy([u64; POLICY_WORDS]),
 }
 
 pub fn read_entry<A: Algorithms>(b: &[u8]) -> Result<Entry, u64> {
@@ -228,10 +236,10 @@ pub fn read_entry<A: Algorithms>(b: &[u8]) -> Result<Entry, u64> {
             if !zero(4 + 4 * (s + a)) {
                 return Err(9);
             }
-            let mut words = [0; 11];
+            let mut words = [0; POLICY_WORDS];
             words[0] = u64::from(d);
-            words[1..6].copy_from_slice(&select[..5]);
-            words[6..11].copy_from_slice(&allow[..5]);
+            words[SELECT..ALLOW].copy_from_slice(&select[..PART_WORDS]);
+            words[ALLOW..].copy_from_slice(&allow[..PART_WORDS]);
             Ok(Entry::Policy(words))
         }
         _ => Err(5),
@@ -256,7 +264,7 @@ pub fn open<A: Algorithms>(m: &mut [u64], b: &[u8]) -> u64 {
         return refused(9);
     }
     m.fill(0);
-    m[..3].copy_from_slice(&[user, key, value]);
+    m[..SETTINGS_WORDS].copy_from_slice(&[user, key, value]);
     0
 }
 
@@ -264,9 +272,9 @@ pub fn open<A: Algorithms>(m: &mut [u64], b: &[u8]) -> u64 {
 
 /// The standing policies of a direction.
 fn of_direction(m: &[u64], direction: u64) -> Row {
-    let mut row = [0; 4];
-    for q in 0..128 {
-        if m[POLICIES + 11 * q] == direction {
+    let mut row = EMPTY;
+    for q in 0..POLICY_SLOTS {
+        if m[layout::policy(q)] == direction {
             put(&mut row, q);
         }
     }
@@ -275,8 +283,8 @@ fn of_direction(m: &[u64], direction: u64) -> Row {
 
 /// What a line of the matrix is worked out from.
 pub struct Sets {
-    selected: [Row; 128],
-    allowed: [Row; 128],
+    selected: [Row; POLICY_SLOTS],
+    allowed: [Row; POLICY_SLOTS],
     ingress: Row,
     egress: Row,
     containers: Row,
@@ -286,20 +294,20 @@ impl Sets {
     /// With the standing entries, and no policy's sets.
     fn new(m: &[u64]) -> Sets {
         Sets {
-            selected: [[0; 4]; 128],
-            allowed: [[0; 4]; 128],
-            ingress: of_direction(m, 1),
-            egress: of_direction(m, 2),
-            containers: standing(m, CONTAINERS, 9, 256),
+            selected: [EMPTY; POLICY_SLOTS],
+            allowed: [EMPTY; POLICY_SLOTS],
+            ingress: of_direction(m, INGRESS),
+            egress: of_direction(m, EGRESS),
+            containers: standing(m, CONTAINER_TABLE),
         }
     }
 }
 
-fn union(policies: &Row, rows: &[Row; 128]) -> Row {
-    let mut u = [0; 4];
-    for q in 0..128 {
+fn union(policies: &Row, rows: &[Row; POLICY_SLOTS]) -> Row {
+    let mut u = EMPTY;
+    for (q, row) in rows.iter().enumerate() {
         if has(policies, q) {
-            u = either(u, rows[q]);
+            u = either(u, *row);
         }
     }
     u
@@ -308,18 +316,18 @@ fn union(policies: &Row, rows: &[Row; 128]) -> Row {
 /// Row a of the matrix; with the directions exchanged, column a.
 fn by_rules(s: &Sets, out: &Row, back: &Row, chosen: Row, a: usize) -> Row {
     if !has(&s.containers, a) {
-        return [0; 4];
+        return EMPTY;
     }
-    let (mut any, mut allowed) = (false, [0; 4]);
-    for q in 0..128 {
+    let (mut any, mut allowed) = (false, EMPTY);
+    for q in 0..POLICY_SLOTS {
         if has(out, q) && has(&s.selected[q], a) {
             any = true;
             allowed = either(allowed, s.allowed[q]);
         }
     }
     let first = if any { both(s.containers, allowed) } else { s.containers };
-    let mut taken = [0; 4];
-    for q in 0..128 {
+    let mut taken = EMPTY;
+    for q in 0..POLICY_SLOTS {
         if has(back, q) && has(&s.allowed[q], a) {
             taken = either(taken, s.selected[q]);
         }
@@ -332,18 +340,18 @@ fn set_container(m: &mut [u64], s: &Sets, c: usize) {
     let row = by_rules(s, &s.egress, &s.ingress, union(&s.ingress, &s.selected), c);
     let column = by_rules(s, &s.ingress, &s.egress, union(&s.egress, &s.selected), c);
     set_row(m, c, row);
-    for a in 0..256 {
+    for a in 0..CONTAINER_SLOTS {
         set_bit(m, a, c, has(&column, a));
     }
-    for q in 0..128 {
-        set_bit(m, 256 + 2 * q, c, has(&s.selected[q], c));
-        set_bit(m, 257 + 2 * q, c, has(&s.allowed[q], c));
+    for q in 0..POLICY_SLOTS {
+        set_bit(m, layout::selected(q), c, has(&s.selected[q], c));
+        set_bit(m, layout::allowed(q), c, has(&s.allowed[q], c));
     }
 }
 
 // ---- calls
 
-fn lowest_free(m: &[u64], start: usize, words: usize, slots: usize) -> Option<usize> {
+fn lowest_free(m: &[u64], (start, words, slots): Table) -> Option<usize> {
     (0..slots).find(|i| m[start + words * i] == 0)
 }
 
@@ -357,24 +365,20 @@ fn tested(m: &[u64]) -> Result<(), u64> {
     Ok(())
 }
 
-fn answer(r: Result<u64, u64>) -> u64 {
-    r.unwrap_or_else(refused)
-}
-
 pub fn admit<A: Algorithms>(m: &mut [u64], b: &[u8]) -> u64 {
     answer((|| {
         tested(m)?;
         match read_entry::<A>(b)? {
             Entry::Container(words) => {
-                let c = lowest_free(m, CONTAINERS, 9, 256).ok_or(12u64)?;
-                m[CONTAINERS + 9 * c..CONTAINERS + 9 * c + 9].copy_from_slice(&words);
+                let c = lowest_free(m, CONTAINER_TABLE).ok_or(12u64)?;
+                m[layout::container(c)..layout::container(c + 1)].copy_from_slice(&words);
                 A::container_admitted(m, c);
                 Ok(c as u64)
             }
             Entry::Policy(words) => {
-                let q = lowest_free(m, POLICIES, 11, 128).ok_or(12u64)?;
-                let at = POLICIES + 11 * q;
-                m[at..at + 11].copy_from_slice(&words);
+                let q = lowest_free(m, POLICY_TABLE).ok_or(12u64)?;
+                let at = layout::policy(q);
+                m[at..at + POLICY_WORDS].copy_from_slice(&words);
                 A::policy_admitted(m, q);
                 Ok(q as u64)
             }
@@ -382,8 +386,8 @@ pub fn admit<A: Algorithms>(m: &mut [u64], b: &[u8]) -> u64 {
     })())
 }
 
-fn slot(m: &[u64], start: usize, words: usize, slots: u64, i: u64) -> Result<usize, u64> {
-    if i >= slots {
+fn slot(m: &[u64], (start, words, slots): Table, i: u64) -> Result<usize, u64> {
+    if i >= slots as u64 {
         return Err(10);
     }
     if m[start + words * i as usize] == 0 {
@@ -395,10 +399,10 @@ fn slot(m: &[u64], start: usize, words: usize, slots: u64, i: u64) -> Result<usi
 pub fn remove_container(m: &mut [u64], i: u64) -> u64 {
     answer((|| {
         tested(m)?;
-        let c = slot(m, CONTAINERS, 9, 256, i)?;
-        m[CONTAINERS + 9 * c..CONTAINERS + 9 * c + 9].fill(0);
-        set_row(m, c, [0; 4]);
-        for r in 0..512 {
+        let c = slot(m, CONTAINER_TABLE, i)?;
+        m[layout::container(c)..layout::container(c + 1)].fill(0);
+        set_row(m, c, EMPTY);
+        for r in 0..ROW_COUNT {
             set_bit(m, r, c, false);
         }
         Ok(0)
@@ -408,10 +412,10 @@ pub fn remove_container(m: &mut [u64], i: u64) -> u64 {
 pub fn remove_policy<A: Algorithms>(m: &mut [u64], i: u64) -> u64 {
     answer((|| {
         tested(m)?;
-        let q = slot(m, POLICIES, 11, 128, i)?;
-        let at = POLICIES + 11 * q;
-        let (direction, selected) = (m[at], A::part_row(m, at + 1, standing(m, CONTAINERS, 9, 256)));
-        m[at..at + 11].fill(0);
+        let q = slot(m, POLICY_TABLE, i)?;
+        let at = layout::policy(q);
+        let (direction, selected) = (m[at], A::part_row(m, at + SELECT, standing(m, CONTAINER_TABLE)));
+        m[at..at + POLICY_WORDS].fill(0);
         A::policy_removed(m, q, direction, selected);
         Ok(0)
     })())
@@ -420,39 +424,37 @@ pub fn remove_policy<A: Algorithms>(m: &mut [u64], i: u64) -> u64 {
 pub fn reaches(m: &[u64], a: u64, b: u64) -> u64 {
     answer((|| {
         tested(m)?;
-        if a >= 256 || b >= 256 {
+        if a >= CONTAINER_SLOTS as u64 || b >= CONTAINER_SLOTS as u64 {
             return Err(10);
         }
-        let (a, b) = (slot(m, CONTAINERS, 9, 256, a)?, slot(m, CONTAINERS, 9, 256, b)?);
+        let (a, b) = (slot(m, CONTAINER_TABLE, a)?, slot(m, CONTAINER_TABLE, b)?);
         Ok(u64::from(has(&row_at(m, a), b)))
     })())
 }
 
 fn user(m: &[u64], c: usize) -> u64 {
-    let at = CONTAINERS + 9 * c;
+    let at = layout::container(c);
     let head = m[at] as usize;
     if head == 0 {
         return 0;
     }
-    m[at + 1..at + head].iter().copied().find(|w| w >> 16 == m[0]).unwrap_or(0)
+    m[at + 1..at + head].iter().copied().find(|w| key_of(*w) == m[USER_KEY]).unwrap_or(0)
 }
 
 pub fn carries_user(m: &[u64], i: u64, value: u64) -> u64 {
     answer((|| {
         tested(m)?;
-        let c = slot(m, CONTAINERS, 9, 256, i)?;
-        Ok(u64::from(value != 0 && value <= 65535 && user(m, c) == m[0] << 16 | value))
+        let c = slot(m, CONTAINER_TABLE, i)?;
+        Ok(u64::from(value != 0 && value <= 65535 && user(m, c) == label_word(m[USER_KEY], value)))
     })())
 }
 
 pub fn counts(m: &[u64]) -> u64 {
     answer((|| {
         tested(m)?;
-        let count = |start: usize, words: usize, slots: usize| {
-            standing(m, start, words, slots).iter().map(|w| u64::from(w.count_ones())).sum::<u64>()
-        };
-        let pairs: u64 = m[ROWS..ROWS + 1024].iter().map(|w| u64::from(w.count_ones())).sum();
-        Ok(count(CONTAINERS, 9, 256) + (count(POLICIES, 11, 128) << 16) + (pairs << 32))
+        let ones = |words: &[u64]| words.iter().map(|w| u64::from(w.count_ones())).sum::<u64>();
+        let matrix = &m[ROWS..layout::row(CONTAINER_SLOTS)];
+        Ok(counted(ones(&standing(m, CONTAINER_TABLE)), ones(&standing(m, POLICY_TABLE)), ones(matrix)))
     })())
 }
 
@@ -463,9 +465,9 @@ pub fn rebuild<A: Algorithms>(m: &mut [u64]) -> u64 {
     let mut s = Sets::new(m);
     A::sets(m, &mut s);
     A::rows(&s, |a, row| set_row(m, a, row));
-    for q in 0..128 {
-        set_row(m, 256 + 2 * q, s.selected[q]);
-        set_row(m, 257 + 2 * q, s.allowed[q]);
+    for q in 0..POLICY_SLOTS {
+        set_row(m, layout::selected(q), s.selected[q]);
+        set_row(m, layout::allowed(q), s.allowed[q]);
     }
     0
 }
@@ -477,11 +479,11 @@ pub fn audit<A: Algorithms>(m: &[u64]) -> u64 {
     let mut s = Sets::new(m);
     A::sets(m, &mut s);
     let mut other = 0;
-    let mut compare = |r: usize, row: Row| (0..4).for_each(|k| other |= m[ROWS + 4 * r + k] ^ row[k]);
+    let mut compare = |r: usize, row: Row| (0..ROW_WORDS).for_each(|k| other |= m[layout::row(r) + k] ^ row[k]);
     A::rows(&s, &mut compare);
-    for q in 0..128 {
-        compare(256 + 2 * q, s.selected[q]);
-        compare(257 + 2 * q, s.allowed[q]);
+    for q in 0..POLICY_SLOTS {
+        compare(layout::selected(q), s.selected[q]);
+        compare(layout::allowed(q), s.allowed[q]);
     }
     u64::from(other == 0)
 }
@@ -489,9 +491,9 @@ pub fn audit<A: Algorithms>(m: &[u64]) -> u64 {
 // ---- findings
 
 fn column(m: &[u64], a: usize) -> Row {
-    let mut row = [0; 4];
-    for c in 0..256 {
-        if m[ROWS + 4 * c + a / 64] >> (a % 64) & 1 == 1 {
+    let mut row = EMPTY;
+    for c in 0..CONTAINER_SLOTS {
+        if m[layout::row(c) + a / 64] >> (a % 64) & 1 == 1 {
             put(&mut row, c);
         }
     }
@@ -499,11 +501,11 @@ fn column(m: &[u64], a: usize) -> Row {
 }
 
 fn finding_row(m: &[u64], cs: &Row, ps: &Row, kind: usize, a: usize) -> Row {
-    let only = |b: usize, t: bool| if t { [1 << b, 0, 0, 0] } else { [0; 4] };
+    let only = |b: usize, t: bool| if t { [1 << b, 0, 0, 0] } else { EMPTY };
     if !has(if kind < 5 { cs } else { ps }, a) {
-        return [0; 4];
+        return EMPTY;
     }
-    let mut row = [0; 4];
+    let mut row = EMPTY;
     match kind {
         1 => only(0, within(*cs, column(m, a))),
         2 => only(0, is_empty(&both(*cs, column(m, a)))),
@@ -523,9 +525,9 @@ fn finding_row(m: &[u64], cs: &Row, ps: &Row, kind: usize, a: usize) -> Row {
             except(others, row)
         }
         4 => {
-            let at = CONTAINERS + 9 * a;
-            let label = m[1] << 16 | m[2];
-            if m[1] == 0 || !m[at + 1..at + m[at] as usize].contains(&label) {
+            let at = layout::container(a);
+            let label = label_word(m[SYSTEM_KEY], m[SYSTEM_VALUE]);
+            if m[SYSTEM_KEY] == 0 || !m[at + 1..at + m[at] as usize].contains(&label) {
                 return row;
             }
             let mut others = except(*cs, row_at(m, a));
@@ -533,15 +535,15 @@ fn finding_row(m: &[u64], cs: &Row, ps: &Row, kind: usize, a: usize) -> Row {
             others
         }
         5 | 6 => {
-            let (s, w, d) = (row_at(m, 256 + 2 * a), row_at(m, 257 + 2 * a), m[POLICIES + 11 * a]);
+            let (s, w, d) = (row_at(m, layout::selected(a)), row_at(m, layout::allowed(a)), m[layout::policy(a)]);
             if is_empty(&w) || kind == 5 && is_empty(&s) {
                 return row;
             }
-            for b in 0..128 {
-                if m[POLICIES + 11 * b] != d || a == b {
+            for b in 0..POLICY_SLOTS {
+                if m[layout::policy(b)] != d || a == b {
                     continue;
                 }
-                let (t, v) = (row_at(m, 256 + 2 * b), row_at(m, 257 + 2 * b));
+                let (t, v) = (row_at(m, layout::selected(b)), row_at(m, layout::allowed(b)));
                 let hit = if kind == 5 {
                     within(s, t) && within(w, v) && (b < a || !(within(t, s) && within(v, w)))
                 } else {
@@ -554,7 +556,7 @@ fn finding_row(m: &[u64], cs: &Row, ps: &Row, kind: usize, a: usize) -> Row {
             row
         }
         _ => {
-            let (s, w) = (row_at(m, 256 + 2 * a), row_at(m, 257 + 2 * a));
+            let (s, w) = (row_at(m, layout::selected(a)), row_at(m, layout::allowed(a)));
             if is_empty(&s) {
                 only(0, true)
             } else {
@@ -564,15 +566,15 @@ fn finding_row(m: &[u64], cs: &Row, ps: &Row, kind: usize, a: usize) -> Row {
     }
 }
 
-pub fn next_after(m: &[u64], kind: u16, a: u16, b: u16) -> u64 {
-    let cs = standing(m, CONTAINERS, 9, 256);
-    let ps = standing(m, POLICIES, 11, 128);
+pub fn next_after(m: &[u64], (kind, a, b): Finding) -> u64 {
+    let cs = standing(m, CONTAINER_TABLE);
+    let ps = standing(m, POLICY_TABLE);
     let (mut kind, mut a, mut from) = (usize::from(kind), usize::from(a), usize::from(b) + 1);
     while kind < 8 {
         if kind > 0 {
-            while a < 256 {
+            while a < CONTAINER_SLOTS {
                 if let Some(b) = next_from(&finding_row(m, &cs, &ps, kind, a), from) {
-                    return ((kind as u64) << 32) + ((a as u64) << 16) + b as u64;
+                    return code((kind as u16, a as u16, b as u16));
                 }
                 a += 1;
                 from = 0;
@@ -586,19 +588,19 @@ pub fn next_after(m: &[u64], kind: u16, a: u16, b: u16) -> u64 {
 }
 
 /// As many of the findings after three numbers as the list holds, the row of a kind at a slot worked out once; how many they are.
-pub fn findings_after(m: &[u64], kind: u16, a: u16, b: u16, list: &mut [u64]) -> usize {
-    let cs = standing(m, CONTAINERS, 9, 256);
-    let ps = standing(m, POLICIES, 11, 128);
+pub fn findings_after(m: &[u64], (kind, a, b): Finding, list: &mut [u64]) -> usize {
+    let cs = standing(m, CONTAINER_TABLE);
+    let ps = standing(m, POLICY_TABLE);
     let (mut kind, mut a, mut from, mut n) = (usize::from(kind), usize::from(a), usize::from(b) + 1, 0);
     while kind < 8 && n < list.len() {
-        if kind == 0 || a >= 256 {
+        if kind == 0 || a >= CONTAINER_SLOTS {
             (kind, a, from) = (kind + 1, 0, 0);
             continue;
         }
         let row = finding_row(m, &cs, &ps, kind, a);
-        let front = ((kind as u64) << 32) + ((a as u64) << 16);
-        for k in from / 64..4 {
-            let mut rest = if k == from / 64 { row[k] >> (from % 64) << (from % 64) } else { row[k] };
+        let front = code((kind as u16, a as u16, 0));
+        for (k, word) in row.into_iter().enumerate().skip(from / 64) {
+            let mut rest = if k == from / 64 { word >> (from % 64) << (from % 64) } else { word };
             while rest != 0 {
                 if n == list.len() {
                     return n;
@@ -613,16 +615,10 @@ pub fn findings_after(m: &[u64], kind: u16, a: u16, b: u16, list: &mut [u64]) ->
     n
 }
 
-pub fn findings(m: &[u64], kind: u16, a: u16, b: u16, list: &mut [u64]) -> u64 {
-    match tested(m) {
-        Ok(()) => findings_after(m, kind, a, b, list) as u64,
-        Err(n) => refused(n),
-    }
+pub fn findings(m: &[u64], after: Finding, list: &mut [u64]) -> u64 {
+    answer(tested(m).map(|()| findings_after(m, after, list) as u64))
 }
 
-pub fn next_finding(m: &[u64], kind: u16, a: u16, b: u16) -> u64 {
-    match tested(m) {
-        Ok(()) => next_after(m, kind, a, b),
-        Err(n) => refused(n),
-    }
+pub fn next_finding(m: &[u64], after: Finding) -> u64 {
+    answer(tested(m).map(|()| next_after(m, after)))
 }

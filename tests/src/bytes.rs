@@ -1,6 +1,11 @@
 //! Blocks of 512 bytes, written.
 
+/// A label: key and value.
 pub type Pair = (u16, u16);
+
+/// Directions of a policy.
+pub const INGRESS: u8 = 1;
+pub const EGRESS: u8 = 2;
 
 fn put(bytes: &mut Vec<u8>, n: u16) {
     bytes.extend_from_slice(&n.to_be_bytes());
@@ -37,6 +42,12 @@ pub fn container(labels: &[Pair]) -> Vec<u8> {
         put(&mut front, *value);
     }
     sealed(&front)
+}
+
+/// The block with a check that is wrong by a bit.
+pub fn spoiled(mut block: Vec<u8>) -> Vec<u8> {
+    block[511] ^= 1;
+    block
 }
 
 pub fn policy(direction: u8, select: &[Pair], allow: &[Pair]) -> Vec<u8> {

@@ -1,5 +1,7 @@
 //! The C interface, as include/bihokura.h declares it, behind safe functions.
 
+use crate::answers::Finding;
+
 extern "C" {
     fn bihokura_words() -> u64;
     fn bihokura_open(memory: *mut u64, words: usize, block: *const u8, len: usize) -> u64;
@@ -9,15 +11,7 @@ extern "C" {
     fn bihokura_reaches(memory: *const u64, words: usize, a: u64, b: u64) -> u64;
     fn bihokura_carries_user(memory: *const u64, words: usize, slot: u64, value: u64) -> u64;
     fn bihokura_next_finding(memory: *const u64, words: usize, kind: u16, a: u16, b: u16) -> u64;
-    fn bihokura_findings(
-        memory: *const u64,
-        words: usize,
-        kind: u16,
-        a: u16,
-        b: u16,
-        list: *mut u64,
-        numbers: usize,
-    ) -> u64;
+    fn bihokura_findings(memory: *const u64, words: usize, kind: u16, a: u16, b: u16, list: *mut u64, numbers: usize) -> u64;
     fn bihokura_counts(memory: *const u64, words: usize) -> u64;
     fn bihokura_rebuild(memory: *mut u64, words: usize) -> u64;
     fn bihokura_audit(memory: *const u64, words: usize) -> u64;
@@ -51,11 +45,11 @@ pub fn carries_user(memory: &[u64], slot: u64, value: u64) -> u64 {
     unsafe { bihokura_carries_user(memory.as_ptr(), memory.len(), slot, value) }
 }
 
-pub fn next_finding(memory: &[u64], kind: u16, a: u16, b: u16) -> u64 {
+pub fn next_finding(memory: &[u64], (kind, a, b): Finding) -> u64 {
     unsafe { bihokura_next_finding(memory.as_ptr(), memory.len(), kind, a, b) }
 }
 
-pub fn findings(memory: &[u64], kind: u16, a: u16, b: u16, list: &mut [u64]) -> u64 {
+pub fn findings(memory: &[u64], (kind, a, b): Finding, list: &mut [u64]) -> u64 {
     unsafe { bihokura_findings(memory.as_ptr(), memory.len(), kind, a, b, list.as_mut_ptr(), list.len()) }
 }
 

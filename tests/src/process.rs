@@ -4,7 +4,7 @@ use std::io::{BufRead, BufReader, PipeReader, PipeWriter, Read, Write};
 use std::os::fd::AsRawFd;
 use std::os::unix::process::CommandExt;
 use std::path::Path;
-use std::process::{Child, Command, Stdio};
+use std::process::{Child, ChildStdin, Command, Stdio};
 use std::sync::mpsc::{channel, Receiver, RecvTimeoutError};
 use std::thread::{sleep, spawn, yield_now, JoinHandle};
 use std::time::{Duration, Instant};
@@ -76,7 +76,9 @@ pub fn end(mut child: Child) -> Ended {
 pub fn fed(mut child: Child, input: &[u8]) -> Ended {
     let writer = child.stdin.take().map(|to| in_pieces(to, input.to_vec(), |rest| rest, |_| ()));
     let ended = end(child);
-    writer.map(|w| w.join().unwrap());
+    if let Some(writer) = writer {
+        writer.join().unwrap();
+    }
     ended
 }
 
@@ -114,6 +116,13 @@ pub fn wait_until_read(pipe: &impl AsRawFd) {
         }
         yield_now();
     }
+}
+
+/// A process with its input, and its lines as they come.
+pub fn with_lines(mut command: Command) -> (Child, ChildStdin, Receiver<String>) {
+    let mut child = command.spawn().unwrap();
+    let (to, lines) = (child.stdin.take().unwrap(), lines(child.stdout.take().unwrap()));
+    (child, to, lines)
 }
 
 /// The lines that are written, each as soon as it comes.

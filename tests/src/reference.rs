@@ -1,11 +1,7 @@
 //! A register written separately from document 01, for comparison: plain vectors, every rule by its sentence, no thought of speed.
-//! Its memory is the layout of docs/MEMORY.md.
 
-use std::collections::BTreeSet;
-
-pub const WORDS: usize = 5763;
-pub const CONTAINERS: usize = 256;
-pub const POLICIES: usize = 128;
+use crate::answers::{answer, code, counted, Finding};
+use crate::layout::{self, *};
 
 #[derive(Clone, Copy, PartialEq, Eq, Debug, PartialOrd, Ord)]
 pub struct Label {
@@ -39,22 +35,44 @@ pub enum Entry {
     Policy(Policy),
 }
 
+/// Rows of bits, in a row one for each container.
+#[derive(Clone, PartialEq, Eq, Debug)]
+pub struct Bits(Vec<[u64; ROW_WORDS]>);
+
+impl Bits {
+    fn clear(rows: usize) -> Bits {
+        Bits(vec![[0; ROW_WORDS]; rows])
+    }
+
+    pub fn get(&self, i: usize, j: usize) -> bool {
+        self.0[i][j / 64] >> (j % 64) & 1 == 1
+    }
+
+    pub fn set(&mut self, i: usize, j: usize, bit: bool) {
+        if self.get(i, j) != bit {
+            self.0[i][j / 64] ^= 1 << (j % 64);
+        }
+    }
+
+    /// The containers in row i.
+    fn row(&self, i: usize) -> Vec<usize> {
+        let mut row = vec![];
+        for (k, word) in self.0[i].into_iter().enumerate().filter(|(_, word)| *word != 0) {
+            row.extend((64 * k..64 * k + 64).filter(|j| word >> (j % 64) & 1 == 1));
+        }
+        row
+    }
+}
+
 /// A register: entries, and the bits it keeps.
 #[derive(Clone, PartialEq, Eq, Debug)]
 pub struct Register {
     pub settings: Settings,
     pub containers: Vec<Option<Vec<Label>>>,
     pub policies: Vec<Option<Policy>>,
-    pub matrix: BTreeSet<(usize, usize)>,
-    pub selected: BTreeSet<(usize, usize)>,
-    pub allowed: BTreeSet<(usize, usize)>,
-}
-
-pub type Finding = (u16, u16, u16);
-
-/// What a call answers, as the C interface numbers it.
-pub fn refused(number: u64) -> u64 {
-    number << 56
+    pub matrix: Bits,
+    pub selected: Bits,
+    pub allowed: Bits,
 }
 
 // ---- blocks
@@ -79,20 +97,12 @@ fn frame(block: &[u8], kinds: &[u8]) -> Result<(), u64> {
 
 pub fn valid_settings(s: &Settings) -> bool {
     (1..=64).contains(&s.user_key)
-        && if s.system_key == 0 {
-            s.system_value == 0
-        } else {
-            s.system_key <= 64 && (1..=65535).contains(&s.system_value)
-        }
+        && if s.system_key == 0 { s.system_value == 0 } else { s.system_key <= 64 && (1..=65535).contains(&s.system_value) }
 }
 
 pub fn read_settings(block: &[u8]) -> Result<Settings, u64> {
     frame(block, &[83])?;
-    let s = Settings {
-        user_key: u64::from(block[1]),
-        system_key: u64::from(block[2]),
-        system_value: number(block, 4),
-    };
+    let s = Settings { user_key: u64::from(block[1]), system_key: u64::from(block[2]), system_value: number(block, 4) };
     if !valid_settings(&s) {
         return Err(7);
     }
@@ -115,9 +125,7 @@ pub fn valid_labels(labels: &[Label], limit: usize) -> bool {
 }
 
 fn labels(block: &[u8], at: usize, n: usize) -> Vec<Label> {
-    (0..n)
-        .map(|k| Label { key: number(block, at + 4 * k), value: number(block, at + 4 * k + 2) })
-        .collect()
+    (0..n).map(|k| Label { key: number(block, at + 4 * k), value: number(block, at + 4 * k + 2) }).collect()
 }
 
 pub fn read_entry(block: &[u8]) -> Result<Entry, u64> {
@@ -162,9 +170,8 @@ fn matches(part: &[Label], container: &[Label]) -> bool {
 }
 
 fn lets(r: &Register, d: Direction, c: &[Label], other: &[Label]) -> bool {
-    let selecting: Vec<&Policy> =
-        r.policies.iter().flatten().filter(|p| p.direction == d && matches(&p.select, c)).collect();
-    selecting.is_empty() || selecting.iter().any(|p| matches(&p.allow, other))
+    let mut selecting = r.policies.iter().flatten().filter(|p| p.direction == d && matches(&p.select, c)).peekable();
+    selecting.peek().is_none() || selecting.any(|p| matches(&p.allow, other))
 }
 
 fn reaches(r: &Register, a: usize, b: usize) -> bool {
@@ -174,32 +181,24 @@ fn reaches(r: &Register, a: usize, b: usize) -> bool {
     }
 }
 
-fn put(set: &mut BTreeSet<(usize, usize)>, i: usize, j: usize, bit: bool) {
-    if bit {
-        set.insert((i, j));
-    } else {
-        set.remove(&(i, j));
-    }
-}
-
 impl Register {
     pub fn opened(settings: Settings) -> Register {
         Register {
             settings,
-            containers: vec![None; CONTAINERS],
-            policies: vec![None; POLICIES],
-            matrix: BTreeSet::new(),
-            selected: BTreeSet::new(),
-            allowed: BTreeSet::new(),
+            containers: vec![None; CONTAINER_SLOTS],
+            policies: vec![None; POLICY_SLOTS],
+            matrix: Bits::clear(CONTAINER_SLOTS),
+            selected: Bits::clear(POLICY_SLOTS),
+            allowed: Bits::clear(POLICY_SLOTS),
         }
     }
 
     fn standing(&self) -> Vec<usize> {
-        (0..CONTAINERS).filter(|c| self.containers[*c].is_some()).collect()
+        (0..CONTAINER_SLOTS).filter(|c| self.containers[*c].is_some()).collect()
     }
 
     fn standing_policies(&self) -> Vec<usize> {
-        (0..POLICIES).filter(|q| self.policies[*q].is_some()).collect()
+        (0..POLICY_SLOTS).filter(|q| self.policies[*q].is_some()).collect()
     }
 
     fn selects(&self, q: usize, c: usize) -> bool {
@@ -210,29 +209,31 @@ impl Register {
         matches!((&self.policies[q], &self.containers[c]), (Some(p), Some(x)) if matches(&p.allow, x))
     }
 
+    pub fn pairs(&self) -> usize {
+        (0..CONTAINER_SLOTS).map(|a| self.matrix.row(a).len()).sum()
+    }
+
     fn set_matrix(&mut self, a: usize, b: usize) {
-        let bit = reaches(self, a, b);
-        put(&mut self.matrix, a, b, bit);
+        self.matrix.set(a, b, reaches(self, a, b));
     }
 
     fn set_sets(&mut self, q: usize, c: usize) {
-        let (s, w) = (self.selects(q, c), self.allows(q, c));
-        put(&mut self.selected, q, c, s);
-        put(&mut self.allowed, q, c, w);
+        self.selected.set(q, c, self.selects(q, c));
+        self.allowed.set(q, c, self.allows(q, c));
     }
 
     fn container_changed(&mut self, c: usize) {
-        for i in 0..CONTAINERS {
+        for i in 0..CONTAINER_SLOTS {
             self.set_matrix(c, i);
             self.set_matrix(i, c);
         }
-        for q in 0..POLICIES {
+        for q in 0..POLICY_SLOTS {
             self.set_sets(q, c);
         }
     }
 
     fn policy_changed(&mut self, q: usize, p: &Policy) {
-        for c in 0..CONTAINERS {
+        for c in 0..CONTAINER_SLOTS {
             self.set_sets(q, c);
         }
         let standing = self.standing();
@@ -250,19 +251,20 @@ impl Register {
     }
 
     pub fn rebuild(&mut self) {
-        for a in 0..CONTAINERS {
-            for b in 0..CONTAINERS {
+        for a in 0..CONTAINER_SLOTS {
+            for b in 0..CONTAINER_SLOTS {
                 self.set_matrix(a, b);
             }
         }
-        for q in 0..POLICIES {
-            for c in 0..CONTAINERS {
+        for q in 0..POLICY_SLOTS {
+            for c in 0..CONTAINER_SLOTS {
                 self.set_sets(q, c);
             }
         }
     }
 
-    pub fn in_step(&self) -> bool {
+    /// The book is in step.
+    pub fn is_consistent(&self) -> bool {
         let mut fresh = self.clone();
         fresh.rebuild();
         fresh == *self
@@ -280,13 +282,9 @@ impl Register {
         label.key != 0 && self.containers[c].as_ref().is_some_and(|x| x.contains(&label))
     }
 
-    fn set(&self, bits: &BTreeSet<(usize, usize)>, q: usize) -> BTreeSet<usize> {
-        bits.range((q, 0)..(q + 1, 0)).map(|p| p.1).collect()
-    }
-
     pub fn findings(&self) -> Vec<Finding> {
         let (cs, ps) = (self.standing(), self.standing_policies());
-        let reach = |a: usize, b: usize| self.matrix.contains(&(a, b));
+        let reach = |a: usize, b: usize| self.matrix.get(a, b);
         let mut list = Vec::new();
         let mut add = |k: u16, a: usize, b: usize| list.push((k, a as u16, b as u16));
         for a in &cs {
@@ -306,10 +304,9 @@ impl Register {
                 }
             }
         }
-        let sets: Vec<_> = (0..POLICIES).map(|q| (self.set(&self.selected, q), self.set(&self.allowed, q))).collect();
-        let among = |a: usize, b: usize| {
-            sets[a].0.iter().all(|c| sets[a].1.iter().all(|d| sets[b].0.contains(c) && sets[b].1.contains(d)))
-        };
+        let sets: Vec<_> = (0..POLICY_SLOTS).map(|q| (self.selected.row(q), self.allowed.row(q))).collect();
+        let connects = |q: usize, c: usize, d: usize| self.selected.get(q, c) && self.allowed.get(q, d);
+        let among = |a: usize, b: usize| sets[a].0.iter().all(|c| sets[a].1.iter().all(|d| connects(b, *c, *d)));
         for a in &ps {
             let (s, w) = &sets[*a];
             if s.is_empty() {
@@ -323,7 +320,8 @@ impl Register {
                 if a != b && one && !s.is_empty() && !w.is_empty() && among(*a, *b) && (!among(*b, *a) || b < a) {
                     add(5, *a, *b);
                 }
-                if a < b && one && !s.is_disjoint(t) && !w.is_empty() && !v.is_empty() && w.is_disjoint(v) {
+                let share = |x: &[usize], y: &[usize]| x.iter().any(|c| y.contains(c));
+                if a < b && one && !w.is_empty() && !v.is_empty() && share(s, t) && !share(w, v) {
                     add(6, *a, *b);
                 }
             }
@@ -338,38 +336,29 @@ impl Register {
         let mut m = vec![self.settings.user_key, self.settings.system_key, self.settings.system_value];
         let part = |m: &mut Vec<u64>, labels: &[Label], limit: usize| {
             m.push(1 + labels.len() as u64);
-            m.extend(labels.iter().map(|l| l.key * 65536 + l.value));
-            m.extend(std::iter::repeat(0).take(limit - labels.len()));
+            m.extend(labels.iter().map(|l| label_word(l.key, l.value)));
+            m.extend(std::iter::repeat_n(0, limit - labels.len()));
         };
         for c in &self.containers {
             match c {
-                Some(x) => part(&mut m, x, 8),
-                None => m.extend([0; 9]),
+                Some(x) => part(&mut m, x, CONTAINER_LABELS),
+                None => m.extend([0; CONTAINER_WORDS]),
             }
         }
         for p in &self.policies {
             match p {
                 Some(p) => {
-                    m.push(if p.direction == Direction::Ingress { 1 } else { 2 });
-                    part(&mut m, &p.select, 4);
-                    part(&mut m, &p.allow, 4);
+                    m.push(if p.direction == Direction::Ingress { INGRESS } else { EGRESS });
+                    part(&mut m, &p.select, PART_LABELS);
+                    part(&mut m, &p.allow, PART_LABELS);
                 }
-                None => m.extend([0; 11]),
+                None => m.extend([0; POLICY_WORDS]),
             }
         }
-        let row = |m: &mut Vec<u64>, bits: &BTreeSet<(usize, usize)>, i: usize| {
-            let mut words = [0u64; 4];
-            for (_, j) in bits.range((i, 0)..(i + 1, 0)) {
-                words[j / 64] |= 1 << (j % 64);
-            }
-            m.extend(words);
-        };
-        for a in 0..CONTAINERS {
-            row(&mut m, &self.matrix, a);
-        }
-        for q in 0..POLICIES {
-            row(&mut m, &self.selected, q);
-            row(&mut m, &self.allowed, q);
+        m.extend(self.matrix.0.as_flattened());
+        for (selected, allowed) in self.selected.0.iter().zip(&self.allowed.0) {
+            m.extend(selected);
+            m.extend(allowed);
         }
         m
     }
@@ -379,7 +368,7 @@ impl Register {
         if m.len() != WORDS {
             return None;
         }
-        let settings = Settings { user_key: m[0], system_key: m[1], system_value: m[2] };
+        let settings = Settings { user_key: m[USER_KEY], system_key: m[SYSTEM_KEY], system_value: m[SYSTEM_VALUE] };
         if !valid_settings(&settings) {
             return None;
         }
@@ -388,42 +377,42 @@ impl Register {
             if n > limit {
                 return None;
             }
-            let list: Vec<Label> =
-                m[at + 1..at + 1 + n].iter().map(|w| Label { key: w / 65536, value: w % 65536 }).collect();
+            let list: Vec<Label> = m[at + 1..at + 1 + n].iter().map(|w| Label { key: key_of(*w), value: value_of(*w) }).collect();
             valid_labels(&list, limit).then_some(list)
         };
         let mut r = Register::opened(settings);
-        for c in 0..CONTAINERS {
-            let at = 3 + 9 * c;
-            if m[at..at + 9].iter().any(|w| *w != 0) {
-                r.containers[c] = Some(part(at, 8)?);
+        for c in 0..CONTAINER_SLOTS {
+            let at = layout::container(c);
+            if m[at..at + CONTAINER_WORDS].iter().any(|w| *w != 0) {
+                r.containers[c] = Some(part(at, CONTAINER_LABELS)?);
             }
         }
-        for q in 0..POLICIES {
-            let at = 2307 + 11 * q;
-            if m[at..at + 11].iter().any(|w| *w != 0) {
+        for q in 0..POLICY_SLOTS {
+            let at = layout::policy(q);
+            if m[at..at + POLICY_WORDS].iter().any(|w| *w != 0) {
                 let direction = match m[at] {
-                    1 => Direction::Ingress,
-                    2 => Direction::Egress,
+                    INGRESS => Direction::Ingress,
+                    EGRESS => Direction::Egress,
                     _ => return None,
                 };
-                r.policies[q] = Some(Policy { direction, select: part(at + 1, 4)?, allow: part(at + 6, 4)? });
+                let (select, allow) = (part(at + SELECT, PART_LABELS)?, part(at + ALLOW, PART_LABELS)?);
+                r.policies[q] = Some(Policy { direction, select, allow });
             }
         }
-        for x in 0..512 {
-            for y in 0..256 {
-                if m[3715 + 4 * x + y / 64] >> (y % 64) & 1 == 0 {
-                    continue;
-                }
-                r.containers[y].as_ref()?;
-                if x < 256 {
-                    r.containers[x].as_ref()?;
-                    r.matrix.insert((x, y));
-                } else {
-                    let q = (x - 256) / 2;
-                    r.policies[q].as_ref()?;
-                    if x % 2 == 0 { &mut r.selected } else { &mut r.allowed }.insert((q, y));
-                }
+        let words = |x: usize| -> [u64; ROW_WORDS] { m[layout::row(x)..layout::row(x + 1)].try_into().unwrap() };
+        let stand = |row: Vec<usize>| row.iter().all(|c| r.containers[*c].is_some());
+        for a in 0..CONTAINER_SLOTS {
+            r.matrix.0[a] = words(a);
+            let row = r.matrix.row(a);
+            if !row.is_empty() && r.containers[a].is_none() || !stand(row) {
+                return None;
+            }
+        }
+        for q in 0..POLICY_SLOTS {
+            (r.selected.0[q], r.allowed.0[q]) = (words(layout::selected(q)), words(layout::allowed(q)));
+            let row = [r.selected.row(q), r.allowed.row(q)].concat();
+            if !row.is_empty() && r.policies[q].is_none() || !stand(row) {
+                return None;
             }
         }
         (r.encode() == m).then_some(r)
@@ -440,9 +429,9 @@ pub enum Call {
     RemovePolicy(u64),
     Reaches(u64, u64),
     CarriesUser(u64, u64),
-    NextFinding(u16, u16, u16),
+    NextFinding(Finding),
     /// With the words of the list that is lent.
-    Findings(u16, u16, u16, Vec<u64>),
+    Findings(Finding, Vec<u64>),
     Counts,
     Rebuild,
     Audit,
@@ -452,7 +441,7 @@ impl Call {
     /// The list that the call is lent; no other call than `Findings` is lent one.
     pub fn list(&self) -> Vec<u64> {
         match self {
-            Call::Findings(_, _, _, list) => list.clone(),
+            Call::Findings(_, list) => list.clone(),
             _ => Vec::new(),
         }
     }
@@ -467,24 +456,24 @@ pub struct Left {
 }
 
 pub fn step(memory: &[u64], call: &Call) -> Left {
-    let same = |n: u64| Left { memory: memory.to_vec(), list: call.list(), answer: refused(n) };
-    if memory.len() != WORDS {
-        return same(1);
-    }
     let mut list = call.list();
+    match changed(memory, call, &mut list) {
+        Ok((r, value)) => Left { memory: r.encode(), list, answer: answer(Ok(value)) },
+        Err(n) => Left { memory: memory.to_vec(), list, answer: answer(Err(n)) },
+    }
+}
+
+/// The register that an accepted call leaves, and the value that it answers.
+fn changed(memory: &[u64], call: &Call, list: &mut [u64]) -> Result<(Register, u64), u64> {
+    if memory.len() != WORDS {
+        return Err(1);
+    }
     if let Call::Open(block) = call {
-        return match read_settings(block) {
-            Ok(s) => Left { memory: Register::opened(s).encode(), list, answer: 0 },
-            Err(n) => same(n),
-        };
+        return Ok((Register::opened(read_settings(block)?), 0));
     }
-    let Some(mut r) = Register::decode(memory) else {
-        return same(2);
-    };
-    match run(&mut r, call, &mut list) {
-        Ok(answer) => Left { memory: r.encode(), list, answer },
-        Err(n) => same(n),
-    }
+    let mut r = Register::decode(memory).ok_or(2u64)?;
+    let value = run(&mut r, call, list)?;
+    Ok((r, value))
 }
 
 fn slot(table: usize, stands: impl Fn(usize) -> bool, i: u64) -> Result<usize, u64> {
@@ -495,15 +484,6 @@ fn slot(table: usize, stands: impl Fn(usize) -> bool, i: u64) -> Result<usize, u
         return Err(11);
     }
     Ok(i as usize)
-}
-
-/// A finding as one number, and back.
-pub fn code((kind, a, b): Finding) -> u64 {
-    (u64::from(kind) << 32) + (u64::from(a) << 16) + u64::from(b)
-}
-
-pub fn numbers(code: u64) -> Finding {
-    ((code >> 32) as u16, (code >> 16) as u16, code as u16)
 }
 
 fn run(r: &mut Register, call: &Call, list: &mut [u64]) -> Result<u64, u64> {
@@ -524,45 +504,41 @@ fn run(r: &mut Register, call: &Call, list: &mut [u64]) -> Result<u64, u64> {
             }
         },
         Call::RemoveContainer(i) => {
-            let c = slot(CONTAINERS, |c| r.containers[c].is_some(), *i)?;
+            let c = slot(CONTAINER_SLOTS, |c| r.containers[c].is_some(), *i)?;
             r.containers[c] = None;
             r.container_changed(c);
             Ok(0)
         }
         Call::RemovePolicy(i) => {
-            let q = slot(POLICIES, |q| r.policies[q].is_some(), *i)?;
+            let q = slot(POLICY_SLOTS, |q| r.policies[q].is_some(), *i)?;
             let p = r.policies[q].take().unwrap();
             r.policy_changed(q, &p);
             Ok(0)
         }
         Call::Reaches(a, b) => {
-            if *a >= 256 || *b >= 256 {
+            if [a, b].into_iter().any(|c| *c >= CONTAINER_SLOTS as u64) {
                 return Err(10);
             }
             let stands = |c: usize| r.containers[c].is_some();
-            let (a, b) = (slot(CONTAINERS, stands, *a)?, slot(CONTAINERS, stands, *b)?);
-            Ok(u64::from(r.matrix.contains(&(a, b))))
+            let (a, b) = (slot(CONTAINER_SLOTS, stands, *a)?, slot(CONTAINER_SLOTS, stands, *b)?);
+            Ok(u64::from(r.matrix.get(a, b)))
         }
         Call::CarriesUser(i, v) => {
-            let c = slot(CONTAINERS, |c| r.containers[c].is_some(), *i)?;
+            let c = slot(CONTAINER_SLOTS, |c| r.containers[c].is_some(), *i)?;
             let label = Label { key: r.settings.user_key, value: *v };
             Ok(u64::from(r.containers[c].as_ref().unwrap().contains(&label)))
         }
-        Call::NextFinding(k, a, b) => Ok(r.findings().into_iter().find(|f| *f > (*k, *a, *b)).map_or(0, code)),
-        Call::Findings(k, a, b, _) => {
-            let after: Vec<Finding> = r.findings().into_iter().filter(|f| *f > (*k, *a, *b)).take(list.len()).collect();
-            for (i, f) in after.iter().enumerate() {
-                list[i] = code(*f);
-            }
-            Ok(after.len() as u64)
+        Call::NextFinding(after) => Ok(r.findings().into_iter().find(|f| f > after).map_or(0, code)),
+        Call::Findings(after, _) => {
+            let some: Vec<u64> = r.findings().into_iter().filter(|f| f > after).take(list.len()).map(code).collect();
+            list[..some.len()].copy_from_slice(&some);
+            Ok(some.len() as u64)
         }
-        Call::Counts => Ok(r.standing().len() as u64
-            + ((r.standing_policies().len() as u64) << 16)
-            + ((r.matrix.len() as u64) << 32)),
+        Call::Counts => Ok(counted(r.standing().len() as u64, r.standing_policies().len() as u64, r.pairs() as u64)),
         Call::Rebuild => {
             r.rebuild();
             Ok(0)
         }
-        Call::Audit => Ok(u64::from(r.in_step())),
+        Call::Audit => Ok(u64::from(r.is_consistent())),
     }
 }

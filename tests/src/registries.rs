@@ -1,9 +1,13 @@
 //! Full registries that the benchmarks and the tests of the label rows go through, each with 256 containers and 128 policies.
 
+use crate::answers::outcome;
 use crate::baseline::{self as b, first_place, ByLabels};
-use crate::bytes::{self, Pair};
+use crate::bytes::{self, Pair, EGRESS, INGRESS};
+use crate::cases::labels;
+use crate::layout::{label_word, CONTAINER_SLOTS, POLICY_SLOTS, WORDS};
 use crate::random::Random;
 use crate::reference::Call;
+use std::ops::RangeInclusive;
 
 pub struct Registry {
     pub name: &'static str,
@@ -25,11 +29,11 @@ pub fn settings() -> Vec<u8> {
 }
 
 impl Registry {
-    fn new(name: &'static str, mut container: impl FnMut(u64) -> Vec<Pair>, mut part: impl FnMut() -> Vec<Pair>) -> Registry {
+    fn new(name: &'static str, mut container: impl FnMut() -> Vec<Pair>, mut part: impl FnMut() -> Vec<Pair>) -> Registry {
         Registry {
             name,
-            containers: (0..256).map(|c| bytes::container(&container(c))).collect(),
-            policies: (0..128).map(|q| bytes::policy(1 + q % 2, &part(), &part())).collect(),
+            containers: (0..CONTAINER_SLOTS).map(|_| bytes::container(&container())).collect(),
+            policies: (0..POLICY_SLOTS).map(|q| bytes::policy([INGRESS, EGRESS][q % 2], &part(), &part())).collect(),
         }
     }
 
@@ -41,70 +45,61 @@ impl Registry {
     }
 
     /// The memory after an open and the admission of this many of its entries.
-    pub fn memory(&self, containers: usize, policies: usize) -> Vec<u64> {
-        let mut m = vec![0; b::WORDS];
-        b::open::<ByLabels>(&mut m, &settings());
+    pub fn memory_of(&self, containers: usize, policies: usize) -> Vec<u64> {
+        let mut m = vec![0; WORDS];
+        assert_eq!(outcome(b::open::<ByLabels>(&mut m, &settings())), Ok(0));
         for block in self.containers[..containers].iter().chain(&self.policies[..policies]) {
-            b::admit::<ByLabels>(&mut m, block);
+            assert!(outcome(b::admit::<ByLabels>(&mut m, block)).is_ok());
         }
         m
     }
-}
 
-/// Some of the keys 1 to `keys`, in rising order, each with one of `values` values.
-fn labels(r: &mut Random, n: u64, keys: u64, values: u64) -> Vec<Pair> {
-    let mut all: Vec<u16> = (1..=keys as u16).collect();
-    while all.len() as u64 > n {
-        all.remove(r.below(all.len() as u64) as usize);
+    /// The memory with all of its entries.
+    pub fn memory(&self) -> Vec<u64> {
+        self.memory_of(self.containers.len(), self.policies.len())
     }
-    all.into_iter().map(|k| (k, 1 + r.below(values) as u16)).collect()
 }
 
 /// The labels under a key for which probing begins at one place, the same for every key: of many such labels nine find a place.
 fn colliding(key: u16) -> Vec<Pair> {
     let all = (1..=u16::MAX).map(|v| (key, v));
-    all.filter(|(k, v)| first_place(u64::from(*k) << 16 | u64::from(*v)) == 17).collect()
+    all.filter(|(k, v)| first_place(label_word(u64::from(*k), u64::from(*v))) == 17).collect()
 }
 
+/// Those of the benchmarks.
 pub fn all() -> Vec<Registry> {
     let (mut r, mut s) = (Random::new(1), Random::new(2));
-    let one = Registry::new("1", |_| labels(&mut r, 5, 20, 4), || { let n = 1 + s.below(2); labels(&mut s, n, 20, 4) });
-    let two = Registry::new("2", |_| labels(&mut r, 5, 64, 4), || { let n = 1 + s.below(2); labels(&mut s, n, 64, 4) });
-    let three = Registry::new(
-        "3",
-        |_| { let n = r.below(9); labels(&mut r, n, 20, 4) },
-        || { let n = s.below(4); labels(&mut s, n, 20, 4) },
-    );
-    let four = Registry::new("4", |_| labels(&mut r, 5, 5, 1), || { let n = 1 + s.below(2); labels(&mut s, n, 5, 1) });
+    let one = Registry::new("1", || labels(&mut r, 5..=5, 20, 4), || labels(&mut s, 1..=2, 20, 4));
+    let two = Registry::new("2", || labels(&mut r, 5..=5, 64, 4), || labels(&mut s, 1..=2, 64, 4));
+    let three = Registry::new("3", || labels(&mut r, 0..=8, 20, 4), || labels(&mut s, 0..=3, 20, 4));
+    let four = Registry::new("4", || labels(&mut r, 5..=5, 5, 1), || labels(&mut s, 1..=2, 5, 1));
     // each label of a part is another one, and no container carries it
-    let mut other = 100;
-    let five = Registry::new("5", |_| labels(&mut r, 8, 8, 4), || {
-        let keys = labels(&mut s, 4, 8, 1);
-        keys.into_iter().map(|(k, _)| { other += 1; (k, other) }).collect()
-    });
+    let mut others = 101..;
+    let other = || labels(&mut s, 4..=4, 8, 1).into_iter().map(|(k, _)| (k, others.next().unwrap())).collect();
+    let five = Registry::new("5", || labels(&mut r, 8..=8, 8, 4), other);
     let all: Vec<Vec<Pair>> = (1..=64).map(colliding).collect();
-    let pick = |r: &mut Random, keys: Vec<Pair>, from: usize| -> Vec<Pair> {
+    let pick = |r: &mut Random, n: u64, from: usize| -> Vec<Pair> {
+        let keys = labels(r, n..=n, 64, 1);
         keys.into_iter().map(|(k, _)| *r.pick(&all[usize::from(k) - 1][from..from + 25])).collect()
     };
-    let six = Registry::new(
-        "6",
-        |_| { let keys = labels(&mut r, 8, 64, 1); pick(&mut r, keys, 0) },
-        || { let keys = labels(&mut s, 4, 64, 1); pick(&mut s, keys, 25) },
-    );
+    let six = Registry::new("6", || pick(&mut r, 8, 0), || pick(&mut s, 4, 25));
     // the same parts, and no label on any container: there the trial of the first release is quickest
     let mut t = Random::new(2);
-    let seven = Registry::new("7", |_| vec![], || { let keys = labels(&mut t, 4, 64, 1); pick(&mut t, keys, 25) });
+    let seven = Registry::new("7", Vec::new, || pick(&mut t, 4, 25));
     vec![one, two, three, four, five, six, seven]
 }
 
 /// 16 labels for which probing begins at one place, on containers and in parts: nine of them find a place, and parts match by both
 /// sorts.
-pub fn crowded() -> Registry {
+fn crowded() -> Registry {
     let all: Vec<Vec<Pair>> = (1..=8).map(colliding).collect();
-    let pick = |r: &mut Random, n: u64| -> Vec<Pair> {
-        let keys = labels(r, n, 8, 1);
-        keys.into_iter().map(|(k, _)| *r.pick(&all[usize::from(k) - 1][..2])).collect()
+    let pick = |r: &mut Random, n: RangeInclusive<u64>| -> Vec<Pair> {
+        labels(r, n, 8, 1).into_iter().map(|(k, _)| *r.pick(&all[usize::from(k) - 1][..2])).collect()
     };
     let (mut r, mut s) = (Random::new(3), Random::new(4));
-    Registry::new("crowded", |_| { let n = 6 + r.below(3); pick(&mut r, n) }, || { let n = 1 + s.below(3); pick(&mut s, n) })
+    Registry::new("crowded", || pick(&mut r, 6..=8), || pick(&mut s, 1..=3))
+}
+
+pub fn all_and_crowded() -> Vec<Registry> {
+    all().into_iter().chain([crowded()]).collect()
 }

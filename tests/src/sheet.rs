@@ -1,6 +1,6 @@
 //! What lister has to write, by document 01, and inputs for it.
 
-use crate::bytes::{container, policy, settings};
+use crate::bytes::{self, container, policy, settings, EGRESS, INGRESS};
 use crate::cases;
 use crate::random::Random;
 use crate::reference::{read_entry, read_settings, Entry, Register};
@@ -30,7 +30,7 @@ pub fn expected(input: &[u8]) -> String {
     }
     r.rebuild();
     let (containers, policies) = (r.containers.iter().flatten().count(), r.policies.iter().flatten().count());
-    writeln!(written, "CONTAINERS {containers} POLICIES {policies} PAIRS {}", r.matrix.len()).unwrap();
+    writeln!(written, "CONTAINERS {containers} POLICIES {policies} PAIRS {}", r.pairs()).unwrap();
     for (k, a, b) in r.findings() {
         writeln!(written, "{k} {a} {b}").unwrap();
     }
@@ -42,7 +42,7 @@ pub fn refusals(input: &[u8]) -> String {
     expected(input).split_inclusive('\n').filter(|line| line.starts_with("REFUSED ")).collect()
 }
 
-/// The input of document 01's printed sheet.
+/// The blocks of document 01's printed sheet.
 pub fn printed() -> Vec<u8> {
     [
         settings(1, 2, 9),
@@ -50,13 +50,15 @@ pub fn printed() -> Vec<u8> {
         container(&[(1, 11), (3, 2)]),
         container(&[(1, 12), (3, 1)]),
         container(&[(1, 99), (2, 9)]),
-        policy(1, &[(3, 2)], &[(3, 1)]),
-        policy(1, &[(1, 11), (3, 2)], &[(1, 11), (3, 1)]),
-        policy(2, &[(3, 2)], &[(1, 13)]),
+        policy(INGRESS, &[(3, 2)], &[(3, 1)]),
+        policy(INGRESS, &[(1, 11), (3, 2)], &[(1, 11), (3, 1)]),
+        policy(EGRESS, &[(3, 2)], &[(1, 13)]),
     ]
     .concat()
 }
 
+/// Where they are stored, and the sheet.
+pub const PRINTED_BLOCKS: &str = concat!(env!("CARGO_MANIFEST_DIR"), "/../examples/printed-sheet.blocks");
 pub const PRINTED: &str = "\
 CONTAINERS 4 POLICIES 3 PAIRS 11
 3 0 2
@@ -78,9 +80,7 @@ pub fn strangers(n: usize) -> Vec<u8> {
 
 /// A block that is refused with 4.
 pub fn spoiled() -> Vec<u8> {
-    let mut block = container(&[(1, 1)]);
-    block[511] ^= 1;
-    block
+    bytes::spoiled(container(&[(1, 1)]))
 }
 
 /// Settings and random blocks, so many in all, of which the last may be short. Of 16 entries so many are valid, and of ten openings

@@ -1,67 +1,76 @@
 //! The stack that a call takes: words below the stack pointer are painted, and after the call the lowest that has another colour
 //! is looked for.
 
-use crate::registries::{self, settings, Registry};
+use crate::answers::outcome;
 use crate::c;
+use crate::registries::{self, settings, Registry};
 use std::arch::asm;
 use std::hint::black_box;
 
 const PAINTED: usize = 1 << 20;
 const COLOUR: u64 = 0xa5a5_5a5a_c3c3_3c3c;
 
-/// Bytes below this function's frame that the work wrote to.
+type Work<'a> = &'a mut (dyn FnMut(&mut [u64]) -> u64 + Send);
+
+/// Bytes below this function's frame that a call wrote to, and its answer.
 #[inline(never)]
-fn below(work: &mut dyn FnMut()) -> usize {
+fn below(m: &mut [u64], call: Work) -> (usize, u64) {
     let pointer: usize;
     unsafe { asm!("mov {}, rsp", out(reg) pointer) };
     let bottom = pointer - PAINTED;
     for at in (bottom..pointer).step_by(8) {
         unsafe { (at as *mut u64).write_volatile(COLOUR) };
     }
-    work();
+    let answer = black_box(call(m));
     let same = |at: &usize| unsafe { (*at as *const u64).read_volatile() } == COLOUR;
-    pointer - (bottom..pointer).step_by(8).find(|at| !same(at)).unwrap()
+    (pointer - (bottom..pointer).step_by(8).find(|at| !same(at)).unwrap(), answer)
 }
 
-/// The same on a thread whose stack is all there, the work itself not counted.
-fn taken(work: &mut (dyn FnMut() + Send)) -> usize {
+/// The same on a thread whose stack is all there, without what a call takes that does nothing.
+fn taken(m: &mut [u64], call: Work) -> (usize, u64) {
     std::thread::scope(|s| {
-        let run = move || below(&mut || {}).abs_diff(below(work));
+        let run = move || {
+            let (nothing, _) = below(m, &mut |_| 0);
+            let (all, answer) = below(m, call);
+            (all - nothing, answer)
+        };
         std::thread::Builder::new().stack_size(4 * PAINTED).spawn_scoped(s, run).unwrap().join().unwrap()
     })
 }
 
 /// The name of each exported call and the bytes of stack that it takes on this registry.
 pub fn calls(r: &Registry) -> Vec<(&'static str, usize)> {
-    let full = r.memory(256, 128);
-    let with = |call: &(dyn Fn(&mut [u64]) -> u64 + Sync)| {
+    let (full, opening, mut list) = (r.memory(), settings(), vec![0; 256]);
+    let (c, q) = (registries::containers().next().unwrap(), registries::policies().next().unwrap());
+    let with = |from: &[u64], refusal: Option<u64>, call: Work| {
+        let (bytes, answer) = taken(&mut from.to_vec(), call);
+        assert_eq!(outcome(answer).err(), refusal, "registry {}", r.name);
+        bytes
+    };
+    let accepted = |call: Work| with(&full, None, call);
+    let without = |remove: &dyn Fn(&mut [u64]) -> u64| {
         let mut m = full.clone();
-        taken(&mut || { black_box(call(&mut m)); })
+        assert_eq!(outcome(remove(&mut m)), Ok(0));
+        m
     };
-    let (mut room, slot) = (full.clone(), registries::containers().next().unwrap());
-    c::remove_container(&mut room, slot as u64);
-    let (mut fewer, policy) = (full.clone(), registries::policies().next().unwrap());
-    c::remove_policy(&mut fewer, policy as u64);
-    let admitted = |from: &[u64], block: &[u8]| {
-        let mut m = from.to_vec();
-        taken(&mut || { black_box(c::admit(&mut m, block)); })
-    };
-    let mut list = vec![0; 256];
-    let listed = taken(&mut || (0..=7).for_each(|kind| { black_box(c::findings(&full, kind, 0, 0, &mut list)); }));
+    let no_container = without(&|m| c::remove_container(m, c as u64));
+    let no_policy = without(&|m| c::remove_policy(m, q as u64));
+    let next = |kind| accepted(&mut |m| c::next_finding(m, (kind, 0, 0)));
+    let mut listed = |kind| accepted(&mut |m| c::findings(m, (kind, 0, 0), &mut list));
     vec![
-        ("bihokura_open", with(&|m| c::open(m, &settings()))),
-        ("bihokura_admit, a container", admitted(&room, &r.containers[slot])),
-        ("bihokura_admit, a policy", admitted(&fewer, &r.policies[policy])),
-        ("bihokura_admit, refused with 12", admitted(&full, &r.containers[slot])),
-        ("bihokura_remove_container", with(&|m| c::remove_container(m, slot as u64))),
-        ("bihokura_remove_policy", with(&|m| c::remove_policy(m, policy as u64))),
-        ("bihokura_reaches", with(&|m| c::reaches(m, 0, 1))),
-        ("bihokura_carries_user", with(&|m| c::carries_user(m, 0, 1))),
-        ("bihokura_next_finding", with(&|m| (0..=7).map(|kind| c::next_finding(m, kind, 0, 0)).max().unwrap())),
-        ("bihokura_findings", listed),
-        ("bihokura_counts", with(&|m| c::counts(m))),
-        ("bihokura_rebuild", with(&|m| c::rebuild(m))),
-        ("bihokura_audit", with(&|m| c::audit(m))),
+        ("bihokura_open", accepted(&mut |m| c::open(m, &opening))),
+        ("bihokura_admit, a container", with(&no_container, None, &mut |m| c::admit(m, &r.containers[c]))),
+        ("bihokura_admit, a policy", with(&no_policy, None, &mut |m| c::admit(m, &r.policies[q]))),
+        ("bihokura_admit, refused with 12", with(&full, Some(12), &mut |m| c::admit(m, &r.containers[c]))),
+        ("bihokura_remove_container", accepted(&mut |m| c::remove_container(m, c as u64))),
+        ("bihokura_remove_policy", accepted(&mut |m| c::remove_policy(m, q as u64))),
+        ("bihokura_reaches", accepted(&mut |m| c::reaches(m, 0, 1))),
+        ("bihokura_carries_user", accepted(&mut |m| c::carries_user(m, 0, 1))),
+        ("bihokura_next_finding", (0..=7).map(next).max().unwrap()),
+        ("bihokura_findings", (0..=7).map(&mut listed).max().unwrap()),
+        ("bihokura_counts", accepted(&mut |m| c::counts(m))),
+        ("bihokura_rebuild", accepted(&mut |m| c::rebuild(m))),
+        ("bihokura_audit", accepted(&mut |m| c::audit(m))),
     ]
 }
 

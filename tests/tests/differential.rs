@@ -1,18 +1,13 @@
-//! The register over its C interface against the reference, on random and damaged input. Each test prints its first seed; a
-//! failing list of calls is shrunk and shown.
+//! The register over its C interface against the reference, on random and damaged input.
 
-use bihokura_tests::cases::{calls, check, cursor, damaged, differs, disordered, findings, memory, settings, words, LISTS};
-use bihokura_tests::random::Random;
-use bihokura_tests::reference::{code, numbers, refused, step, Call, Register, WORDS};
-use bihokura_tests::{bytes, c, cases, registries};
-use std::time::{Duration, Instant};
-
-/// Seeds from a fixed one on, until the time is up or all are done.
-fn seeds(name: &str, first: u64, most: u64, seconds: u64) -> impl Iterator<Item = u64> {
-    println!("{name}: seeds from {first}");
-    let end = Instant::now() + Duration::from_secs(seconds);
-    (first..first + most).take_while(move |_| Instant::now() < end)
-}
+use bihokura_tests::answers::{code, finding, outcome, refused, Finding, START};
+use bihokura_tests::bytes::{self, EGRESS, INGRESS};
+use bihokura_tests::cases::{calls, cursor, damaged, disordered, findings, memory, settings, LISTS};
+use bihokura_tests::layout::{CONTAINERS, CONTAINER_SLOTS, POLICIES, POLICY_SLOTS, SETTINGS_WORDS, WORDS};
+use bihokura_tests::random::{case, seeds, Random};
+use bihokura_tests::reference::{step, Call, Register};
+use bihokura_tests::sides::{check, on_c, ALL};
+use bihokura_tests::{c, registries, walks};
 
 #[test]
 fn words_are_as_documented() {
@@ -21,46 +16,37 @@ fn words_are_as_documented() {
 
 #[test]
 fn random_calls_after_an_open() {
-    let mut done = 0;
-    for seed in seeds("random calls", 1, 400, 40) {
-        let mut r = Random::new(seed);
-        let garbage = words(&mut r, WORDS);
-        let mut list = vec![Call::Open(settings(&mut r))];
-        list.extend(calls(&mut r, 60));
-        check("random calls", seed, &garbage, &list);
-        done += 1;
-    }
-    assert!(done >= 20, "only {done} lists in the time");
+    seeds(1, 1000, |r| {
+        let garbage = r.words(WORDS);
+        let mut list = vec![Call::Open(settings(r))];
+        list.extend(calls(r, 60));
+        check(&[on_c], &garbage, &list);
+    });
 }
 
 #[test]
 fn stored_bits_out_of_step() {
-    let mut done = 0;
-    for seed in seeds("out of step", 10_000, 300, 40) {
-        let mut r = Random::new(seed);
+    seeds(10_000, 1000, |r| {
         let entries = 4 + r.below(24) as usize;
-        let m = memory(&mut r, entries);
-        let m = disordered(&mut r, &m);
-        check("out of step", seed, &m, &calls(&mut r, 12));
-        done += 1;
-    }
-    assert!(done >= 20, "only {done} memories in the time");
+        let m = memory(r, entries);
+        let m = disordered(r, &m);
+        check(&[on_c], &m, &calls(r, 12));
+    });
 }
 
 #[test]
 fn damaged_blocks() {
     let mut accepted = 0;
-    for seed in seeds("damaged blocks", 20_000, 3000, 30) {
-        let mut r = Random::new(seed);
-        let m = memory(&mut r, 3);
+    seeds(20_000, 3000, |r| {
+        let m = memory(r, 3);
         for _ in 0..4 {
-            let block = damaged(&mut r);
-            for call in [Call::Open(block.clone()), Call::Admit(block.clone())] {
-                check("damaged blocks", seed, &m, &[call.clone()]);
-                accepted += u64::from(cases::on_c(&m, &call).answer < refused(1));
+            let block = damaged(r);
+            for call in [Call::Open(block.clone()), Call::Admit(block)] {
+                accepted += u64::from(outcome(on_c(&m, &call).answer).is_ok());
+                check(&[on_c], &m, &[call]);
             }
         }
-    }
+    });
     assert!(accepted > 0, "no damaged block was accepted: too much damage to test anything else");
 }
 
@@ -68,9 +54,9 @@ fn damaged_blocks() {
 fn flip(r: &mut Random, m: &mut [u64]) {
     for _ in 0..=r.below(2) {
         let at = match r.below(5) {
-            0 => r.below(3),
-            1 => 3 + r.below(120),
-            2 => 2307 + r.below(60),
+            0 => r.below(SETTINGS_WORDS as u64),
+            1 => CONTAINERS as u64 + r.below(120),
+            2 => POLICIES as u64 + r.below(60),
             _ => r.below(WORDS as u64),
         };
         let bits = if r.once_in(2) { 3 } else { 64 };
@@ -81,28 +67,31 @@ fn flip(r: &mut Random, m: &mut [u64]) {
 #[test]
 fn damaged_memories() {
     let mut refusals = 0;
-    for seed in seeds("damaged memories", 30_000, 600, 30) {
-        let mut r = Random::new(seed);
+    seeds(30_000, 2000, |r| {
         let entries = 2 + r.below(30) as usize;
-        let mut m = memory(&mut r, entries);
-        flip(&mut r, &mut m);
-        for call in calls(&mut r, 6) {
-            check("damaged memories", seed, &m, &[call.clone()]);
-            refusals += u64::from(cases::on_c(&m, &call).answer == refused(2));
+        let mut m = memory(r, entries);
+        flip(r, &mut m);
+        for call in calls(r, 6) {
+            refusals += u64::from(on_c(&m, &call).answer == refused(2));
+            check(&[on_c], &m, &[call]);
         }
-    }
+    });
     assert!(refusals > 100, "damage was seldom noticed");
 }
 
+const OTHER_SIZES: [usize; 7] = [0, 1, 3, 100, WORDS - 1, WORDS + 1, 2 * WORDS];
+
 #[test]
 fn memories_of_another_size() {
-    let mut r = Random::new(40_000);
-    for size in [0, 1, 3, 100, WORDS - 1, WORDS + 1, 2 * WORDS] {
-        let m = words(&mut r, size);
-        for call in calls(&mut r, 200) {
-            let left = differs(&m, &call).unwrap_or_else(|e| panic!("size {size}, {call:?}: {e}"));
-            assert_eq!(left, m);
-        }
+    for size in OTHER_SIZES {
+        case(format_args!("{size} words"), || {
+            let mut r = Random::new(40_000);
+            let m = r.words(size);
+            for call in calls(&mut r, 200) {
+                let left = on_c(&m, &call);
+                assert!((left.answer, left.memory, left.list) == (refused(1), m.clone(), call.list()), "{call:?}");
+            }
+        });
     }
 }
 
@@ -111,35 +100,49 @@ fn zeros_are_not_well_formed() {
     let m = vec![0; WORDS];
     assert_eq!(c::counts(&m), refused(2));
     assert_eq!(c::audit(&m), refused(2));
-    assert_eq!(c::findings(&m, 0, 0, 0, &mut []), refused(2));
+    assert_eq!(c::findings(&m, START, &mut []), refused(2));
+}
+
+/// Here the benchmarks' baselines are held to the reference too.
+#[test]
+fn full_registries() {
+    for registry in registries::all_and_crowded() {
+        case(format_args!("registry {}", registry.name), || check(&ALL, &registry.memory(), &registry.calls()));
+    }
 }
 
 #[test]
-fn full_registries() {
-    for r in registries::all().iter().chain([&registries::crowded()]) {
-        let m = r.memory(256, 128);
-        check(r.name, 0, &m, &r.calls());
-        let m = disordered(&mut Random::new(50_000), &m);
-        check(r.name, 50_000, &m, &r.calls());
+fn full_registries_out_of_step() {
+    for registry in registries::all_and_crowded() {
+        let m = disordered(&mut Random::new(50_000), &registry.memory());
+        case(format_args!("registry {}", registry.name), || check(&ALL, &m, &registry.calls()));
     }
+}
+
+/// A registry with both tables full.
+fn full(settings: &[u8], container: impl Fn(u16) -> Vec<u8>, policy: impl Fn(u16) -> Vec<u8>) -> Vec<u64> {
+    let mut m = vec![0; WORDS];
+    assert_eq!(outcome(c::open(&mut m, settings)), Ok(0));
+    for i in 0..CONTAINER_SLOTS {
+        assert_eq!(outcome(c::admit(&mut m, &container(i as u16))), Ok(i as u64));
+    }
+    for q in 0..POLICY_SLOTS {
+        assert_eq!(outcome(c::admit(&mut m, &policy(q as u16))), Ok(q as u64));
+    }
+    m
 }
 
 #[test]
 fn full_tables_and_slots_used_again() {
-    let mut m = vec![0; WORDS];
-    assert_eq!(c::open(&mut m, &bytes::settings(1, 2, 9)), 0);
-    for i in 0..256u64 {
-        let labels = [(1, 1 + (i % 7) as u16), (2, 9), (3, 1 + (i % 3) as u16)];
-        let few = if i % 5 == 0 { &labels[..] } else { &labels[..1] };
-        assert_eq!(c::admit(&mut m, &bytes::container(few)), i);
-    }
-    for q in 0..128u64 {
-        let block = bytes::policy(1 + (q % 2) as u8, &[(1, 1 + (q % 9) as u16)], &[(3, 1 + (q % 4) as u16)]);
-        assert_eq!(c::admit(&mut m, &block), q);
-    }
+    let container = |i: u16| {
+        let labels = [(1, 1 + i % 7), (2, 9), (3, 1 + i % 3)];
+        bytes::container(if i.is_multiple_of(5) { &labels } else { &labels[..1] })
+    };
+    let policy = |q: u16| bytes::policy([INGRESS, EGRESS][usize::from(q % 2)], &[(1, 1 + q % 9)], &[(3, 1 + q % 4)]);
+    let m = full(&bytes::settings(1, 2, 9), container, policy);
     let list = [
         Call::Admit(bytes::container(&[])),
-        Call::Admit(bytes::policy(1, &[], &[])),
+        Call::Admit(bytes::policy(INGRESS, &[], &[])),
         Call::Counts,
         Call::Audit,
         Call::RemoveContainer(255),
@@ -150,97 +153,105 @@ fn full_tables_and_slots_used_again() {
         Call::Admit(bytes::container(&[(1, 3)])),
         Call::RemovePolicy(127),
         Call::RemovePolicy(0),
-        Call::Admit(bytes::policy(2, &[], &[(1, 2)])),
-        Call::Admit(bytes::policy(1, &[(1, 2)], &[])),
-        Call::Admit(bytes::policy(1, &[(1, 2)], &[])),
+        Call::Admit(bytes::policy(EGRESS, &[], &[(1, 2)])),
+        Call::Admit(bytes::policy(INGRESS, &[(1, 2)], &[])),
+        Call::Admit(bytes::policy(INGRESS, &[(1, 2)], &[])),
         Call::Counts,
-        Call::NextFinding(0, 0, 0),
-        Call::NextFinding(3, 200, 7),
-        Call::NextFinding(5, 0, 0),
-        Call::Findings(0, 0, 0, vec![7; 300]),
-        Call::Findings(7, 0, 0, vec![7; 300]),
+        Call::NextFinding(START),
+        Call::NextFinding((3, 200, 7)),
+        Call::NextFinding((5, 0, 0)),
+        Call::Findings(START, vec![7; 300]),
+        Call::Findings((7, 0, 0), vec![7; 300]),
         Call::Rebuild,
         Call::Audit,
     ];
-    check("full tables", 0, &m, &list);
+    check(&[on_c], &m, &list);
 }
 
-#[test]
-fn a_walk_meets_the_findings_once_in_order() {
-    for seed in seeds("walks", 50_000, 60, 30) {
-        let mut r = Random::new(seed);
-        let entries = 3 + r.below(20) as usize;
-        let m = memory(&mut r, entries);
-        let m = if r.once_in(2) { disordered(&mut r, &m) } else { m };
-        let expected = Register::decode(&m).unwrap().findings().into_iter().map(code).collect::<Vec<u64>>();
-        assert_eq!(walk(&m, expected.len()), expected, "seed {seed}");
-    }
+fn codes(m: &[u64]) -> Vec<u64> {
+    Register::decode(m).unwrap().findings().into_iter().map(code).collect()
 }
 
-/// What repeated calls of next_finding give from the start: not more than so many findings.
+/// What repeated calls of next_finding give: not many more than so many findings, so that a walk without an end is noticed.
 fn walk(m: &[u64], most: usize) -> Vec<u64> {
-    let mut met = vec![];
-    let (mut k, mut a, mut b) = (0, 0, 0);
-    loop {
-        let answer = c::next_finding(m, k, a, b);
-        if answer == 0 {
-            return met;
-        }
-        assert!(met.len() < most, "the walk does not end");
-        met.push(answer);
-        (k, a, b) = numbers(answer);
-    }
+    walks::walk(|after| c::next_finding(m, after)).take(most + 1).collect()
 }
 
 /// The same by repeated calls of findings with lists of random lengths, empty ones among them. Each list's rest is kept.
 fn walk_by_lists(r: &mut Random, m: &[u64], most: usize) -> Vec<u64> {
-    let mut met: Vec<u64> = vec![];
+    let mut met = vec![];
     let lengths = *r.pick(&[2, 10, 300, 3000]);
-    let (mut k, mut a, mut b) = (0, 0, 0);
-    loop {
-        let n = r.below(lengths) as usize;
-        let before = words(r, n);
-        let mut list = before.clone();
-        let answer = c::findings(m, k, a, b, &mut list) as usize;
-        assert!(answer <= n && list[answer..] == before[answer..], "{answer} findings in a list of {n}");
-        met.extend(&list[..answer]);
-        assert!(met.len() <= most, "the walk does not end");
-        (k, a, b) = met.last().map_or((0, 0, 0), |f| numbers(*f));
-        if answer < n {
-            return met;
-        }
+    let mut buffer = r.words(lengths as usize);
+    let listed = |after: Finding, list: &mut [u64]| {
+        let before = list.to_vec();
+        let answer = c::findings(m, after, list);
+        let n = outcome(answer).unwrap() as usize;
+        assert!(n <= list.len() && list[n..] == before[n..], "{n} findings in a list of {}", list.len());
+        answer
+    };
+    walks::walk_by_lists(
+        listed,
+        &mut buffer,
+        || r.below(lengths) as usize,
+        |some| {
+            met.extend(some);
+            assert!(met.len() <= most, "the walk does not end");
+        },
+    );
+    met
+}
+
+fn in_step_or_not(r: &mut Random, entries: usize) -> Vec<u64> {
+    let m = memory(r, entries);
+    if r.once_in(2) {
+        disordered(r, &m)
+    } else {
+        m
     }
 }
 
 #[test]
+fn a_walk_meets_the_findings_once_in_order() {
+    seeds(50_000, 200, |r| {
+        let entries = 3 + r.below(20) as usize;
+        let m = in_step_or_not(r, entries);
+        let expected = codes(&m);
+        assert_eq!(walk(&m, expected.len()), expected);
+    });
+}
+
+#[test]
 fn lists_of_findings_are_the_walk() {
-    for seed in 80_000..80_200 {
-        let mut r = Random::new(seed);
+    seeds(80_000, 200, |r| {
         let entries = r.below(80) as usize;
-        let m = memory(&mut r, entries);
-        let m = if r.once_in(2) { disordered(&mut r, &m) } else { m };
-        let whole = walk(&m, 100_000);
-        assert_eq!(walk_by_lists(&mut r, &m, whole.len()), whole, "seed {seed}");
-    }
-    for registry in registries::all().iter().chain([&registries::crowded()]) {
-        let m = registry.memory(256, 128);
-        let whole = walk(&m, 100_000);
-        assert!(walk_by_lists(&mut Random::new(81_000), &m, whole.len()) == whole, "registry {}", registry.name);
+        let m = in_step_or_not(r, entries);
+        let whole = codes(&m);
+        assert_eq!(walk(&m, whole.len()), whole);
+        assert_eq!(walk_by_lists(r, &m, whole.len()), whole);
+    });
+    for registry in registries::all_and_crowded() {
+        case(format_args!("registry {}", registry.name), || {
+            let m = registry.memory();
+            let whole = codes(&m);
+            assert!(walk(&m, whole.len()) == whole);
+            assert!(walk_by_lists(&mut Random::new(81_000), &m, whole.len()) == whole);
+        });
     }
 }
 
 /// A call of findings that is lent the middle of a longer list: it writes to no word around it.
 fn check_between(r: &mut Random, m: &[u64], call: &Call) {
-    let Call::Findings(k, a, b, list) = call else { unreachable!() };
-    let (front, back, n) = (words(r, 3), words(r, 300), list.len());
+    let Call::Findings(after, list) = call else { unreachable!() };
+    let (front, back, n) = (r.words(3), r.words(300), list.len());
     let mut lent = [&front[..], list, &back].concat();
-    let answer = c::findings(m, *k, *a, *b, &mut lent[3..3 + n]);
-    assert_eq!(answer, step(m, call).answer);
-    assert!(lent[..3] == front && lent[3 + n..] == back, "findings after {k} {a} {b}, a list of {n}: a word beside it is written");
+    let answer = c::findings(m, *after, &mut lent[front.len()..front.len() + n]);
+    let expected = step(m, call);
+    assert_eq!(answer, expected.answer);
+    assert!(lent == [front, expected.list, back].concat(), "findings after {after:?} into a list of {n} between others");
 }
 
 /// Findings and what is near them as cursors, and any three numbers.
-fn near(r: &mut Random, m: &[u64]) -> (u16, u16, u16) {
+fn near(r: &mut Random, m: &[u64]) -> Finding {
     let all = Register::decode(m).map_or(vec![], |registry| registry.findings());
     if all.is_empty() || r.once_in(3) {
         return cursor(r);
@@ -259,57 +270,40 @@ fn near(r: &mut Random, m: &[u64]) -> (u16, u16, u16) {
 #[test]
 fn findings_into_lists_of_each_length() {
     let mut filled = [0; LISTS.len()];
-    for seed in 90_000..90_060 {
-        let mut r = Random::new(seed);
+    seeds(90_000, 60, |r| {
         let entries = r.below(90) as usize;
-        let made = memory(&mut r, entries);
+        let made = memory(r, entries);
         let mut flipped = made.clone();
-        flip(&mut r, &mut flipped);
-        let any = words(&mut r, WORDS);
-        let size = *r.pick(&[0, 1, 3, WORDS - 1, WORDS + 1, 2 * WORDS]);
-        let other = words(&mut r, size);
-        for m in [&made, &disordered(&mut r, &made), &flipped, &any, &other, &made[1..].to_vec()] {
+        flip(r, &mut flipped);
+        let (any, size) = (r.words(WORDS), *r.pick(&OTHER_SIZES));
+        for m in [&made, &disordered(r, &made), &flipped, &any, &r.words(size), &made[1..].to_vec()] {
             for (i, n) in LISTS.into_iter().enumerate() {
-                let (k, a, b) = near(&mut r, m);
-                let call = Call::Findings(k, a, b, words(&mut r, n));
-                check("findings into lists", seed, m, &[call.clone()]);
-                check_between(&mut r, m, &call);
+                let call = Call::Findings(near(r, m), r.words(n));
+                check_between(r, m, &call);
                 filled[i] += u64::from(step(m, &call).answer == n as u64);
+                check(&[on_c], m, &[call]);
             }
         }
-    }
+    });
     assert!(filled[..6].iter().all(|n| *n >= 10), "few lists were filled: {filled:?}");
 }
 
-/// 256 containers of which all but one are open to all, and 128 policies alike: 73,408 findings, more than the longest list holds.
-fn many_findings() -> Vec<u64> {
-    let mut m = vec![0; WORDS];
-    assert_eq!(c::open(&mut m, &bytes::settings(1, 0, 0)), 0);
-    for i in 0..256u64 {
-        let labels = if i == 40 { vec![(2, 1)] } else { vec![] };
-        assert_eq!(c::admit(&mut m, &bytes::container(&labels)), i);
-    }
-    for q in 0..128u64 {
-        assert_eq!(c::admit(&mut m, &bytes::policy(1, &[(2, 1)], &[(2, 1)])), q);
-    }
-    m
-}
-
+/// 256 containers of which all but one are open to all, and 128 policies alike: more findings than the longest list holds.
 #[test]
 fn more_findings_than_a_list_holds() {
-    let m = many_findings();
-    let all: Vec<u64> = Register::decode(&m).unwrap().findings().into_iter().map(code).collect();
+    let container = |i: u16| bytes::container(if i == 40 { &[(2, 1)] } else { &[] });
+    let m = full(&bytes::settings(1, 0, 0), container, |_| bytes::policy(INGRESS, &[(2, 1)], &[(2, 1)]));
+    let all = codes(&m);
     assert_eq!(all.len(), 73_408);
     let mut r = Random::new(91_000);
     assert_eq!(walk(&m, all.len()), all);
     assert!(walk_by_lists(&mut r, &m, all.len()) == all);
-    for (i, n) in LISTS.into_iter().enumerate() {
-        let first = Call::Findings(0, 0, 0, words(&mut r, n));
+    for n in LISTS {
+        let first = Call::Findings(START, r.words(n));
         check_between(&mut r, &m, &first);
-        check("many findings", i as u64, &m, &[first, findings(&mut r, n)]);
+        check(&[on_c], &m, &[first, findings(&mut r, n)]);
     }
-    let (k, a, b) = numbers(all[69_999]);
-    check("many findings", 0, &m, &[Call::Findings(k, a, b, words(&mut r, 70_000))]);
+    check(&[on_c], &m, &[Call::Findings(finding(all[69_999]), r.words(70_000))]);
 }
 
 #[test]
@@ -319,11 +313,11 @@ fn a_query_changes_nothing() {
     for call in [
         Call::Reaches(0, 1),
         Call::CarriesUser(0, 1),
-        Call::NextFinding(0, 0, 0),
-        Call::Findings(0, 0, 0, words(&mut r, 10)),
+        Call::NextFinding(START),
+        Call::Findings(START, r.words(10)),
         Call::Counts,
         Call::Audit,
     ] {
-        assert_eq!(cases::on_c(&m, &call).memory, m, "{call:?}");
+        assert_eq!(on_c(&m, &call).memory, m, "{call:?}");
     }
 }

@@ -2,9 +2,9 @@
 
 use bihokura_tests::bytes::{container, settings};
 use bihokura_tests::process::{end, fed, in_pieces, lines, pipe_of, piped, program_of, redirected, reset, rest, send_signal};
-use bihokura_tests::process::{set_non_blocking, Ended, LIMIT, PROGRAM, SCRIPT};
-use bihokura_tests::sheet::{expected, printed, refusals, spoiled, strangers, PRINTED};
-use std::io::{PipeReader, Read, Write};
+use bihokura_tests::process::{set_non_blocking, with_lines, Ended, LIMIT, PROGRAM, SCRIPT};
+use bihokura_tests::sheet::{expected, printed, refusals, spoiled, strangers, PRINTED, PRINTED_BLOCKS};
+use std::io::{Read, Write};
 use std::net::{TcpListener, TcpStream};
 use std::os::fd::OwnedFd;
 use std::path::{Path, PathBuf};
@@ -53,12 +53,11 @@ fn read_refusals(lines: &Receiver<String>) -> String {
 
 #[test]
 fn the_printed_sheet() {
-    let blocks = Path::new(concat!(env!("CARGO_MANIFEST_DIR"), "/../examples/printed-sheet.blocks"));
-    assert_eq!(std::fs::read(blocks).unwrap(), printed());
-    let ended = end(script(r#"< "$1""#, blocks));
-    assert_eq!((ended.code, &ended.out[..], &ended.err[..]), (Some(0), PRINTED, ""));
-    let ended = fed(piped(SCRIPT).spawn().unwrap(), &printed());
-    assert_eq!((ended.code, &ended.out[..], &ended.err[..]), (Some(0), PRINTED, ""));
+    let from_file = end(script(r#"< "$1""#, Path::new(PRINTED_BLOCKS)));
+    let from_pipe = fed(piped(SCRIPT).spawn().unwrap(), &printed());
+    for ended in [from_file, from_pipe] {
+        assert_eq!((ended.code, &ended.out[..], &ended.err[..]), (Some(0), PRINTED, ""));
+    }
 }
 
 #[test]
@@ -131,20 +130,17 @@ fn a_closed_output() {
 
 /// The reader takes so many bytes, which are the first of the report, and goes away.
 fn read_and_gone(input: &[u8], bytes: usize) {
-    let (mut from, to) = std::io::pipe().unwrap();
-    let mut taken = vec![0; bytes];
-    let reader = move |from: &mut PipeReader| from.read_exact(&mut taken).map(|()| taken).unwrap();
-    let taken = if bytes == 0 {
-        drop(from);
-        failed(&fed(piped(SCRIPT).stdout(to).spawn().unwrap(), input));
-        vec![]
-    } else {
-        let child = piped(SCRIPT).stdout(to).spawn().unwrap();
-        let reading = spawn(move || reader(&mut from));
-        failed(&fed(child, input));
-        reading.join().unwrap()
-    };
-    assert!(expected(input).as_bytes().starts_with(&taken));
+    let (from, to) = std::io::pipe().unwrap();
+    // one that takes nothing has gone before the program begins
+    let reader = (bytes > 0).then_some(from);
+    let child = piped(SCRIPT).stdout(to).spawn().unwrap();
+    let reading = spawn(move || {
+        let mut taken = vec![0; bytes];
+        reader.map(|mut from| from.read_exact(&mut taken)).transpose().unwrap();
+        taken
+    });
+    failed(&fed(child, input));
+    assert!(expected(input).as_bytes().starts_with(&reading.join().unwrap()));
 }
 
 #[test]
@@ -162,8 +158,7 @@ fn a_reader_that_goes_away() {
 fn the_signals_of_a_failed_write_are_ignored() {
     const PIPE: u32 = 13;
     const FILE_SIZE: u32 = 25;
-    let mut child = piped(SCRIPT).spawn().unwrap();
-    let (mut to, lines) = (child.stdin.take().unwrap(), lines(child.stdout.take().unwrap()));
+    let (child, mut to, lines) = with_lines(piped(SCRIPT));
     to.write_all(&begun()).unwrap();
     read_refusals(&lines);
     let status = std::fs::read_to_string(format!("/proc/{}/status", program_of(&child))).unwrap();
@@ -250,8 +245,7 @@ fn a_program_that_is_killed() {
     const TERMINATE: i32 = 15;
     const KILL: i32 = 9;
     for signal in [TERMINATE, KILL] {
-        let mut child = piped(SCRIPT).spawn().unwrap();
-        let (mut to, lines) = (child.stdin.take().unwrap(), lines(child.stdout.take().unwrap()));
+        let (child, mut to, lines) = with_lines(piped(SCRIPT));
         to.write_all(&begun()).unwrap();
         read_refusals(&lines);
         send_signal(program_of(&child), signal);
@@ -266,8 +260,7 @@ fn a_program_that_is_killed() {
 fn a_program_that_is_stopped_for_a_while() {
     const STOP: i32 = 19;
     const CONTINUE: i32 = 18;
-    let mut child = piped(SCRIPT).spawn().unwrap();
-    let (mut to, lines) = (child.stdin.take().unwrap(), lines(child.stdout.take().unwrap()));
+    let (child, mut to, lines) = with_lines(piped(SCRIPT));
     to.write_all(&begun()).unwrap();
     let first = read_refusals(&lines);
     send_signal(program_of(&child), STOP);
@@ -280,6 +273,10 @@ fn a_program_that_is_stopped_for_a_while() {
 }
 
 // ---- what only takes its time
+
+/// Long enough for the program to wait, and to try again some times where it may not wait: it does so every 10 ms.
+const START: Duration = Duration::from_millis(300);
+const PAUSE: Duration = Duration::from_millis(60);
 
 /// An input that ends within a block and is refused in places, and cuts of it: within blocks, and one piece of several blocks.
 fn slow_input() -> (Vec<u8>, fn(usize) -> usize) {
@@ -296,8 +293,8 @@ fn a_slow_writer() {
     let (input, length) = slow_input();
     let mut child = piped(SCRIPT).spawn().unwrap();
     let to = child.stdin.take().unwrap();
-    sleep(Duration::from_millis(1500));
-    in_pieces(to, input.clone(), length, |_| sleep(Duration::from_millis(250)));
+    sleep(START);
+    in_pieces(to, input.clone(), length, |_| sleep(PAUSE));
     whole(&end(child), &input);
 }
 
@@ -307,8 +304,8 @@ fn a_non_blocking_input() {
     let (from, to) = std::io::pipe().unwrap();
     set_non_blocking(&from);
     let child = piped(SCRIPT).stdin(from).spawn().unwrap();
-    sleep(Duration::from_millis(600));
-    in_pieces(to, input.clone(), length, |_| sleep(Duration::from_millis(300)));
+    sleep(START);
+    in_pieces(to, input.clone(), length, |_| sleep(PAUSE));
     whole(&end(child), &input);
 }
 
@@ -322,7 +319,7 @@ fn a_non_blocking_output() {
         let reader = spawn(move || {
             let mut all = vec![];
             for n in [5_000, 5_000, 50_000] {
-                sleep(Duration::from_millis(500));
+                sleep(START);
                 from.by_ref().take(n).read_to_end(&mut all).unwrap();
             }
             from.read_to_end(&mut all).unwrap();

@@ -1,8 +1,11 @@
 //! What the program `instances` writes, worked out by the separately written register: document 01's instances without a star,
 //! each refusal number among them. A line is the instance's number, the refusal and the answer.
 
-use bihokura_tests::bytes::{container, policy, sealed, settings, Pair};
-use bihokura_tests::reference::{step, Call, WORDS};
+use bihokura_tests::answers::{counts, outcome};
+use bihokura_tests::bytes::{container, policy, sealed, settings, spoiled, Pair, EGRESS, INGRESS};
+use bihokura_tests::layout::WORDS;
+use bihokura_tests::reference::{step, Call};
+use std::fmt::Write;
 
 struct Run {
     memory: Vec<u64>,
@@ -13,19 +16,18 @@ impl Run {
     fn ask(&mut self, case: u64, call: Call) {
         let left = step(&self.memory, &call);
         self.memory = left.memory;
-        let (refusal, value) = (left.answer >> 56, left.answer & ((1 << 56) - 1));
-        if refusal == 0 && call == Call::Counts {
-            self.write(format!("{case} 0 {}", value & 0xffff));
-            self.write(format!("{case} 0 {}", (value >> 16) & 0xffff));
-            self.write(format!("{case} 0 {}", value >> 32));
-        } else {
-            self.write(format!("{case} {refusal} {value}"));
+        match outcome(left.answer) {
+            Ok(value) if call == Call::Counts => {
+                let (containers, policies, pairs) = counts(value);
+                [containers, policies, pairs].into_iter().for_each(|n| self.write(case, 0, n));
+            }
+            Ok(value) => self.write(case, 0, value),
+            Err(refusal) => self.write(case, refusal, 0),
         }
     }
 
-    fn write(&mut self, line: String) {
-        self.written += &line;
-        self.written.push('\n');
+    fn write(&mut self, case: u64, refusal: u64, value: u64) {
+        writeln!(self.written, "{case} {refusal} {value}").unwrap();
     }
 
     fn open(&mut self, case: u64, block: Vec<u8>) {
@@ -47,12 +49,6 @@ fn changed(block: Vec<u8>, at: usize, byte: u8) -> Vec<u8> {
     let mut front = block[..510].to_vec();
     front[at] = byte;
     sealed(&front)
-}
-
-/// The block with a check that is one too high.
-fn spoiled(mut block: Vec<u8>) -> Vec<u8> {
-    block[511] += 1;
-    block
 }
 
 fn opening(r: &mut Run) {
@@ -94,16 +90,16 @@ fn containers(r: &mut Run) {
 }
 
 fn policies(r: &mut Run) {
-    r.admit(30, policy(1, &run_of(4, 1), &[]));
-    r.admit(31, policy(2, &run_of(5, 1), &[]));
-    r.admit(32, policy(2, &[], &run_of(5, 1)));
+    r.admit(30, policy(INGRESS, &run_of(4, 1), &[]));
+    r.admit(31, policy(EGRESS, &run_of(5, 1), &[]));
+    r.admit(32, policy(EGRESS, &[], &run_of(5, 1)));
     r.admit(33, policy(3, &run_of(1, 1), &[]));
     r.admit(34, policy(0, &run_of(1, 1), &[]));
-    r.admit(35, policy(2, &[(64, 1)], &[]));
-    r.admit(36, policy(2, &[(65, 1)], &[]));
-    r.admit(37, policy(2, &[(3, 1), (3, 1)], &[]));
-    r.admit(38, changed(policy(2, &run_of(2, 3), &[]), 12, 1));
-    r.admit(39, policy(2, &run_of(4, 1), &run_of(4, 5)));
+    r.admit(35, policy(EGRESS, &[(64, 1)], &[]));
+    r.admit(36, policy(EGRESS, &[(65, 1)], &[]));
+    r.admit(37, policy(EGRESS, &[(3, 1), (3, 1)], &[]));
+    r.admit(38, changed(policy(EGRESS, &run_of(2, 3), &[]), 12, 1));
+    r.admit(39, policy(EGRESS, &run_of(4, 1), &run_of(4, 5)));
 }
 
 fn asking(r: &mut Run) {
@@ -142,7 +138,7 @@ fn filling(r: &mut Run) {
             r.memory = step(&r.memory, &Call::Admit(block.clone())).memory;
         }
     };
-    let (two, from_one) = (container(&run_of(2, 1)), policy(2, &[(1, 1)], &[(2, 1)]));
+    let (two, from_one) = (container(&run_of(2, 1)), policy(EGRESS, &[(1, 1)], &[(2, 1)]));
     r.open(64, settings(1, 2, 9));
     silently(r, two.clone(), 255);
     r.admit(66, two.clone());
@@ -150,7 +146,7 @@ fn filling(r: &mut Run) {
     r.ask(68, Call::RemoveContainer(100));
     r.admit(69, container(&run_of(1, 1)));
     r.admit(70, container(&run_of(1, 1)));
-    silently(r, policy(1, &[], &[(2, 1)]), 127);
+    silently(r, policy(INGRESS, &[], &[(2, 1)]), 127);
     r.admit(72, from_one.clone());
     r.admit(73, from_one.clone());
     r.ask(74, Call::RemovePolicy(127));

@@ -1,23 +1,15 @@
-//! The list of calls of crates/steps/specs/Listed.antt, whose answers antt computes through the reference model's step
-//! (`listed-answers`), run through the exported calls.
+//! The list of calls of `Listed.antt`, whose answers antt computes through the reference model's step (`listed-answers`), run
+//! through the exported calls.
 
-use bihokura_tests::bytes::{container, policy, sealed, settings};
-use bihokura_tests::cases::on_c;
-use bihokura_tests::reference::{refused, step, Call, Left, WORDS};
+use bihokura_tests::answers::{code, counted, refused, Finding, START};
+use bihokura_tests::bytes::{container, policy, sealed, settings, Pair, EGRESS, INGRESS};
+use bihokura_tests::layout::WORDS;
+use bihokura_tests::reference::{step, Call};
+use bihokura_tests::sides::{on_c, Side};
 
-const ZEROS: [u64; WORDS + 1] = [0; WORDS + 1];
-const INGRESS: u8 = 1;
-const EGRESS: u8 = 2;
+static ZEROS: [u64; WORDS + 1] = [0; WORDS + 1];
 
-fn counted(containers: u64, policies: u64, pairs: u64) -> u64 {
-    containers + (policies << 16) + (pairs << 32)
-}
-
-fn meets(kind: u64, a: u64, b: u64) -> u64 {
-    (kind << 32) + (a << 16) + b
-}
-
-/// A call and its answer: lent our memory, or as many words of zero as are not our size; and what it puts into its list.
+/// A call with its answer and what it puts into its list. It is lent so many words: our memory, or zeros of another size.
 struct Line(usize, Call, u64, Vec<u64>);
 
 /// What stands in a list before it is lent.
@@ -26,20 +18,21 @@ const BEFORE: u64 = 77;
 fn listed() -> Vec<Line> {
     let ours = |call, answer| Line(WORDS, call, answer, vec![]);
     let other = |n, call| Line(n, call, refused(1), vec![]);
-    let listing = |(k, a, b), room| Call::Findings(k, a, b, vec![BEFORE; room]);
-    let puts = |call, put: &[u64]| Line(WORDS, call, put.len() as u64, put.to_vec());
-    let con = |labels: &[(u16, u16)]| Call::Admit(container(labels));
-    let pol = |d, s: &[(u16, u16)], a: &[(u16, u16)]| Call::Admit(policy(d, s, a));
-    let next = Call::NextFinding;
+    let found = |after, next| ours(Call::NextFinding(after), code(next));
+    let none = |after| ours(Call::NextFinding(after), 0);
+    let listing = |after, room| Call::Findings(after, vec![BEFORE; room]);
+    let puts = |call, put: &[Finding]| Line(WORDS, call, put.len() as u64, put.iter().copied().map(code).collect());
+    let con = |labels: &[Pair]| Call::Admit(container(labels));
+    let pol = |d, s: &[Pair], a: &[Pair]| Call::Admit(policy(d, s, a));
     let mut unchecked = vec![0; 512];
     unchecked[0] = 67;
     let mut list = vec![
         ours(Call::Counts, counted(0, 0, 0)),
-        ours(next(0, 0, 0), 0),
-        puts(listing((0, 0, 0), 3), &[]),
+        none(START),
+        puts(listing(START, 3), &[]),
         ours(Call::RemoveContainer(0), refused(11)),
         ours(con(&[(1, 11), (3, 1)]), 0),
-        other(5762, con(&[(1, 11), (3, 2)])),
+        other(WORDS - 1, con(&[(1, 11), (3, 2)])),
         ours(con(&[(1, 11), (3, 2)]), 1),
         ours(con(&[(1, 12), (3, 1)]), 2),
         ours(con(&[(1, 99), (2, 9)]), 3),
@@ -47,14 +40,14 @@ fn listed() -> Vec<Line> {
         ours(pol(INGRESS, &[(1, 11), (3, 2)], &[(1, 11), (3, 1)]), 1),
         ours(pol(EGRESS, &[(3, 2)], &[(1, 13)]), 2),
         ours(Call::Counts, counted(4, 3, 11)),
-        ours(next(0, 0, 0), meets(3, 0, 2)),
-        ours(next(4, 3, 1), meets(5, 1, 0)),
-        ours(next(7, 2, 1), 0),
-        puts(listing((0, 0, 0), 3), &[meets(3, 0, 2), meets(3, 0, 3), meets(3, 2, 0)]),
-        puts(listing((3, 3, 2), 5), &[meets(4, 3, 1), meets(5, 1, 0), meets(7, 2, 1)]),
+        found(START, (3, 0, 2)),
+        found((4, 3, 1), (5, 1, 0)),
+        none((7, 2, 1)),
+        puts(listing(START, 3), &[(3, 0, 2), (3, 0, 3), (3, 2, 0)]),
+        puts(listing((3, 3, 2), 5), &[(4, 3, 1), (5, 1, 0), (7, 2, 1)]),
         puts(listing((3, 2, 0), 0), &[]),
         puts(listing((7, 2, 1), 1), &[]),
-        other(5762, listing((0, 0, 0), 3)),
+        other(WORDS - 1, listing(START, 3)),
         ours(Call::Reaches(1, 0), 0),
         ours(Call::Reaches(2, 1), 1),
         ours(Call::Reaches(4, 256), refused(10)),
@@ -71,7 +64,7 @@ fn listed() -> Vec<Line> {
         ours(Call::Admit(sealed(&[80, 2, 0, 2, 0, 3, 0, 1, 0, 3, 0, 2])), refused(8)),
         ours(Call::Admit(sealed(&[67, 0, 0, 1])), refused(9)),
         ours(Call::Open(sealed(&[83, 65])), refused(7)),
-        other(5764, Call::Open(settings(3, 0, 0))),
+        other(WORDS + 1, Call::Open(settings(3, 0, 0))),
         ours(Call::Audit, 1),
         ours(Call::RemovePolicy(2), 0),
         ours(Call::RemovePolicy(2), refused(11)),
@@ -81,7 +74,7 @@ fn listed() -> Vec<Line> {
         ours(Call::Reaches(0, 1), refused(11)),
         ours(con(&[]), 0),
         ours(Call::Counts, counted(4, 2, 13)),
-        ours(next(5, 65535, 65535), meets(7, 1, 1)),
+        found((5, 65535, 65535), (7, 1, 1)),
         ours(Call::Rebuild, 0),
         ours(Call::Counts, counted(4, 2, 13)),
         ours(Call::Open(settings(3, 0, 0)), 0),
@@ -100,7 +93,7 @@ fn listed() -> Vec<Line> {
     list
 }
 
-fn run(call: impl Fn(&[u64], &Call) -> Left) {
+fn run(call: Side) {
     let memory: Vec<u64> = (0..WORDS as u64).collect();
     let opened = call(&memory, &Call::Open(settings(1, 2, 9)));
     assert_eq!(opened.answer, 0);

@@ -1,7 +1,11 @@
 //! The reference itself, on document 01's printed example and instances.
 
-use bihokura_tests::bytes::{container, policy, settings};
-use bihokura_tests::reference::{refused, step, Call, Register, WORDS};
+use bihokura_tests::answers::{counted, refused};
+use bihokura_tests::bytes::{container, settings};
+use bihokura_tests::layout::WORDS;
+use bihokura_tests::reference::{step, Call, Register};
+use bihokura_tests::sheet::{expected, printed, PRINTED, PRINTED_BLOCKS};
+use std::process::Command;
 
 fn run(calls: &[Call]) -> (Vec<u64>, Vec<u64>) {
     let mut m = vec![0; WORDS];
@@ -16,23 +20,15 @@ fn run(calls: &[Call]) -> (Vec<u64>, Vec<u64>) {
 
 #[test]
 fn the_printed_example() {
-    let calls = [
-        Call::Open(settings(1, 2, 9)),
-        Call::Admit(container(&[(1, 11), (3, 1)])),
-        Call::Admit(container(&[(1, 11), (3, 2)])),
-        Call::Admit(container(&[(1, 12), (3, 1)])),
-        Call::Admit(container(&[(1, 99), (2, 9)])),
-        Call::Admit(policy(1, &[(3, 2)], &[(3, 1)])),
-        Call::Admit(policy(1, &[(1, 11), (3, 2)], &[(1, 11), (3, 1)])),
-        Call::Admit(policy(2, &[(3, 2)], &[(1, 13)])),
-        Call::Counts,
-        Call::Audit,
-    ];
+    assert_eq!(expected(&printed()), PRINTED);
+    let blocks = printed();
+    let mut blocks = blocks.chunks(512).map(<[u8]>::to_vec);
+    let mut calls = vec![Call::Open(blocks.next().unwrap())];
+    calls.extend(blocks.map(Call::Admit).chain([Call::Counts, Call::Audit]));
     let (m, answers) = run(&calls);
-    assert_eq!(answers, [0, 0, 1, 2, 3, 0, 1, 2, 4 + (3 << 16) + (11 << 32), 1]);
+    assert_eq!(answers, [0, 0, 1, 2, 3, 0, 1, 2, counted(4, 3, 11), 1]);
     let found = Register::decode(&m).unwrap().findings();
-    let expected =
-        [(3, 0, 2), (3, 0, 3), (3, 2, 0), (3, 2, 1), (3, 2, 3), (3, 3, 0), (3, 3, 2), (4, 3, 1), (5, 1, 0), (7, 2, 1)];
+    let expected = [(3, 0, 2), (3, 0, 3), (3, 2, 0), (3, 2, 1), (3, 2, 3), (3, 3, 0), (3, 3, 2), (4, 3, 1), (5, 1, 0), (7, 2, 1)];
     assert_eq!(found, expected);
 }
 
@@ -48,4 +44,11 @@ fn checks_and_refusals() {
         Call::Reaches(256, 0),
     ]);
     assert_eq!(answers, [0, refused(7), refused(8), refused(11), refused(10)]);
+}
+
+/// The stored blocks are those that the program `printed_sheet` writes.
+#[test]
+fn the_stored_blocks() {
+    let written = Command::new(env!("CARGO_BIN_EXE_printed_sheet")).output().unwrap();
+    assert!(written.status.success() && written.stdout == std::fs::read(PRINTED_BLOCKS).unwrap());
 }

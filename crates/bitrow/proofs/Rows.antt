@@ -1,4 +1,4 @@
--- Laws of a row's bits. Assumes nothing.
+-- Laws of a row's bits.
 use mathlib.Core.Path.{_≡_, refl, sym, ap, ap₂, _∙_, fun-ext}
 use mathlib.Core.Bool.{Bool, true, false, not, _&&_, _||_, or-comm, and-comm, and-eq-true-iff}
 use mathlib.Core.List.{List, [], _∷_}
@@ -58,7 +58,7 @@ words-are r s e q f =
     f (j / 64) (omega arith) (j % 64) (rem-lt j) ∙ ap s d)
 
 -- rows with the same bits are the same
-pub row-ext : (r s : List ℕ) → Row r → Row s → ((j : ℕ) → j < 256 → bitAt r j ≡ bitAt s j) → r ≡ s
+row-ext : (r s : List ℕ) → Row r → Row s → ((j : ℕ) → j < 256 → bitAt r j ≡ bitAt s j) → r ≡ s
 row-ext r s p q f =
     ext-getD 0 r s (p .four ∙ sym (q .four)) (λ k h.
     let k4 : k < 4 = omega (arith, p .four) in
@@ -103,7 +103,7 @@ low-row i a b c d p q r e f g h =
 
 -- ---- a row made of two rows word by word
 
-abbrev pub zipped : (ℕ → ℕ → ℕ) → List ℕ → List ℕ → List ℕ
+abbrev zipped : (ℕ → ℕ → ℕ) → List ℕ → List ℕ → List ℕ
 zipped f a b = f (getD a 0 0) (getD b 0 0) ∷ f (getD a 1 0) (getD b 1 0) ∷ f (getD a 2 0) (getD b 2 0) ∷ f (getD a 3 0) (getD b 3 0) ∷ []
 
 module _ (f : ℕ → ℕ → ℕ) (g : Bool → Bool → Bool) (a b : List ℕ)
@@ -151,7 +151,7 @@ set-row g g0 r i v h f j = go (ℕ-discrete (j / 64) (i / 64))
         ∙ sym (ap (λ (x : Bool). g x (bit (getD r (j / 64) 0) (j % 64))) (ne-eqb j i (λ q. n (ap (λ (x : ℕ). x / 64) q))) ∙ g0 (bit (getD r (j / 64) 0) (j % 64)))
 
 -- `1 << (i % 64)`
-abbrev pub bitMask : ℕ → ℕ
+abbrev bitMask : ℕ → ℕ
 bitMask i = 1 * 2 ^ (i % 64) % 18446744073709551616
 
 mask-bit : (i m : ℕ) → bit (bitMask i) m ≡ eqb m (i % 64)
@@ -205,19 +205,19 @@ empty-row r p =
     zeros z = ap₂ bitOr (ap₂ bitOr (ap₂ bitOr (z 0 (omega arith)) (z 1 (omega arith))) (z 2 (omega arith))) (z 3 (omega arith))
 
 -- `a[k] == b[k]`, and so for each k
-abbrev pub sameWord : List ℕ → List ℕ → ℕ → Bool
+abbrev sameWord : List ℕ → List ℕ → ℕ → Bool
 sameWord a b k = eqb (getD a k 0) (getD b k 0)
 
-abbrev pub sameWords : List ℕ → List ℕ → Bool
-sameWords a b = sameWord a b 0 && sameWord a b 1 && sameWord a b 2 && sameWord a b 3
+abbrev pub wordsSame : List ℕ → List ℕ → Bool
+wordsSame a b = sameWord a b 0 && sameWord a b 1 && sameWord a b 2 && sameWord a b 3
 
-pub equal-row : (a b : List ℕ) → Row a → Row b → sameWords a b ≡ equal (bitAt a) (bitAt b)
+pub equal-row : (a b : List ℕ) → Row a → Row b → wordsSame a b ≡ equal (bitAt a) (bitAt b)
 equal-row a b p q =
-    same-test (sameWords a b) (equal (bitAt a) (bitAt b))
+    same-test (wordsSame a b) (equal (bitAt a) (bitAt b))
     (λ e. ap (λ (r : List ℕ). equal (bitAt a) (bitAt r)) (sym (whole e)) ∙ equal-self (bitAt a))
     (λ e. all (row-ext a b p q (equal-in (bitAt a) (bitAt b) e)))
   where
-    whole : sameWords a b ≡ true → a ≡ b
+    whole : wordsSame a b ≡ true → a ≡ b
     whole e =
         let x = and-eq-true-iff (sameWord a b 0 && sameWord a b 1 && sameWord a b 2) (sameWord a b 3) .0 e in
         let y = and-eq-true-iff (sameWord a b 0 && sameWord a b 1) (sameWord a b 2) .0 (x .0) in
@@ -228,13 +228,13 @@ equal-row a b p q =
     word : a ≡ b → (k : ℕ) → sameWord a b k ≡ true
     word e k = eq-eqb (getD a k 0) (getD b k 0) (ap (λ (r : List ℕ). getD r k 0) e)
 
-    all : a ≡ b → sameWords a b ≡ true
+    all : a ≡ b → wordsSame a b ≡ true
     all e = simp (word e)
 
 -- ---- counting
 
 -- `count_ones` of each word
-abbrev pub wordOnes : List ℕ → ℕ
+abbrev wordOnes : List ℕ → ℕ
 wordOnes r = ones (getD r 0 0) + ones (getD r 1 0) + ones (getD r 2 0) + ones (getD r 3 0)
 
 word-size : (r : List ℕ) → Row r → (k : ℕ) → ones (getD r k 0) ≡ size (λ i. bitAt r (k * 64 + i)) 64

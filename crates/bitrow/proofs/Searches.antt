@@ -1,4 +1,4 @@
--- What a search for the lowest number of a set finds. Assumes nothing.
+-- What a search for the lowest number of a set finds.
 use mathlib.Core.Path.{_≡_, refl, sym, ap, _∙_, subst}
 use mathlib.Core.Bool.{Bool, true, false, cond, true≢false}
 use Prim.Native.Nat.{ℕ, zero, suc, _+_, _-_, _≤_, _<_}
@@ -10,7 +10,7 @@ use Rattle.bitrow.specs.Set.{firstOf, lowestFrom, Lowest, Finds}
 
 module _ (s : ℕ → Bool) where
   -- nothing from i up to m: what is found from m on is found from i on
-  pub finds-skip : (i m n : ℕ) → i ≤ m → ((k : ℕ) → i ≤ k → k < m → s k ≡ false) → (r : Found) → Finds s m n r → Finds s i n r
+  finds-skip : (i m n : ℕ) → i ≤ m → ((k : ℕ) → i ≤ k → k < m → s k ≡ false) → (r : Found) → Finds s m n r → Finds s i n r
   finds-skip i m n h none (At j) l = record { from = omega (arith, l .from); below = l .below; there = l .there; before = λ k a b. go k a b (decLt k m) }
     where
       go : (k : ℕ) → i ≤ k → k < j → Dec (k < m) → s k ≡ false
@@ -23,7 +23,7 @@ module _ (s : ℕ → Bool) where
       go k a b (no o) = f k (omega arith) b
 
   -- there is one answer
-  pub finds-one : (i n : ℕ) (q r : Found) → Finds s i n q → Finds s i n r → q ≡ r
+  finds-one : (i n : ℕ) (q r : Found) → Finds s i n q → Finds s i n r → q ≡ r
   finds-one i n (At j) (At k) x y = ap At (go (decLt j k) (decLt k j))
     where
       go : Dec (j < k) → Dec (k < j) → j ≡ k

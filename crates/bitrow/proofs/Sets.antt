@@ -1,6 +1,6 @@
--- Laws of sets of numbers. Assumes nothing.
+-- Laws of sets of numbers.
 use mathlib.Core.Path.{_≡_, refl, sym, ap, _∙_, fun-ext}
-use mathlib.Core.Bool.{Bool, true, false, not, _&&_, _||_, and-true, and-false, or-false, and-self, or-self, and-assoc, or-assoc, and-comm, or-comm, and-not-self, and-or-distrib-left, and-or-distrib-right, or-and-distrib-left, true≢false}
+use mathlib.Core.Bool.{Bool, true, false, not, _&&_, _||_, and-true, and-false, or-false, or-self, and-assoc, or-assoc, and-comm, or-comm}
 use Prim.Native.Nat.{ℕ, _+_, _≤_, _<_, zero-le}
 use native.Mathlib.Decide.{ℕ-discrete, decLt}
 use native.Mathlib.Omega.{arith}
@@ -34,21 +34,13 @@ pub at-least-out : (i j : ℕ) → j < i → atLeast i j ≡ false
 unfolding atLeast
 at-least-out i j h = lt-leb i j h
 
-pub insert-at : (i : ℕ) (s : ℕ → Bool) (j : ℕ) → insert i s j ≡ (eqb j i || s j)
-unfolding insert
-insert-at i s j = refl
-
 pub insert-there : (i : ℕ) (s : ℕ → Bool) → insert i s i ≡ true
 unfolding insert
 insert-there i s = ap (λ (b : Bool). b || s i) (eq-eqb i i refl)
 
-pub insert-other : (i : ℕ) (s : ℕ → Bool) (j : ℕ) → (j ≡ i → ⊥) → insert i s j ≡ s j
+insert-other : (i : ℕ) (s : ℕ → Bool) (j : ℕ) → (j ≡ i → ⊥) → insert i s j ≡ s j
 unfolding insert
 insert-other i s j n = ap (λ (b : Bool). b || s j) (ne-eqb j i n)
-
-pub remove-at : (i : ℕ) (s : ℕ → Bool) (j : ℕ) → remove i s j ≡ (not (eqb j i) && s j)
-unfolding remove
-remove-at i s j = refl
 
 pub remove-there : (i : ℕ) (s : ℕ → Bool) → remove i s i ≡ false
 unfolding remove
@@ -88,10 +80,6 @@ pub join-assoc : (s t u : ℕ → Bool) → join (join s t) u ≡ join s (join t
 unfolding join
 join-assoc s t u = fun-ext (λ j. or-assoc (s j) (t j) (u j))
 
-pub meet-self : (s : ℕ → Bool) → meet s s ≡ s
-unfolding meet
-meet-self s = fun-ext (λ j. and-self (s j))
-
 pub join-self : (s : ℕ → Bool) → join s s ≡ s
 unfolding join
 join-self s = fun-ext (λ j. or-self (s j))
@@ -116,40 +104,6 @@ pub less-nothing : (s : ℕ → Bool) → less s nothing ≡ s
 unfolding less nothing
 less-nothing s = fun-ext (λ j. and-true (s j))
 
-pub nothing-less : (s : ℕ → Bool) → less nothing s ≡ nothing
-unfolding less nothing
-nothing-less s = refl
-
-pub less-self : (s : ℕ → Bool) → less s s ≡ nothing
-unfolding less nothing
-less-self s = fun-ext (λ j. and-not-self (s j))
-
-pub meet-join : (s t u : ℕ → Bool) → meet s (join t u) ≡ join (meet s t) (meet s u)
-unfolding meet join
-meet-join s t u = fun-ext (λ j. and-or-distrib-left (s j) (t j) (u j))
-
-pub join-meet : (s t u : ℕ → Bool) → join s (meet t u) ≡ meet (join s t) (join s u)
-unfolding meet join
-join-meet s t u = fun-ext (λ j. or-and-distrib-left (s j) (t j) (u j))
-
-pub join-less : (s t u : ℕ → Bool) → less (join s t) u ≡ join (less s u) (less t u)
-unfolding join less
-join-less s t u = fun-ext (λ j. and-or-distrib-right (s j) (t j) (not (u j)))
-
-pub meet-less : (s t u : ℕ → Bool) → meet s (less t u) ≡ less (meet s t) u
-unfolding meet less
-meet-less s t u = fun-ext (λ j. sym (and-assoc (s j) (t j) (not (u j))))
-
--- what is outside a union is outside each
-pub less-join : (s t u : ℕ → Bool) → less s (join t u) ≡ less (less s t) u
-unfolding join less
-less-join s t u = fun-ext (λ j. outside (s j) (t j) (u j))
-  where
-    outside : (a b c : Bool) → (a && not (b || c)) ≡ (a && not b && not c)
-    outside true true c = refl
-    outside true false c = refl
-    outside false b c = refl
-
 -- what is outside what s has of t is outside t
 pub less-meet : (s t : ℕ → Bool) → less s (meet t s) ≡ less s t
 unfolding meet less
@@ -162,7 +116,7 @@ less-meet s t = fun-ext (λ j. outside (s j) (t j))
 -- ---- one number put in or taken out
 
 -- two sets that agree at i and at every other number
-pub by-one : (i : ℕ) {s t : ℕ → Bool} → s i ≡ t i → ((j : ℕ) → (j ≡ i → ⊥) → s j ≡ t j) → s ≡ t
+by-one : (i : ℕ) {s t : ℕ → Bool} → s i ≡ t i → ((j : ℕ) → (j ≡ i → ⊥) → s j ≡ t j) → s ≡ t
 by-one i {s} {t} e f = fun-ext (λ j. go j (ℕ-discrete j i))
   where
     go : (j : ℕ) → Dec (j ≡ i) → s j ≡ t j
@@ -174,9 +128,6 @@ insert-member i s h = by-one i (insert-there i s ∙ sym h) (insert-other i s)
 
 pub remove-absent : (i : ℕ) (s : ℕ → Bool) → s i ≡ false → remove i s ≡ s
 remove-absent i s h = by-one i (remove-there i s ∙ sym h) (remove-other i s)
-
-pub remove-insert : (i : ℕ) (s : ℕ → Bool) → s i ≡ false → remove i (insert i s) ≡ s
-remove-insert i s h = by-one i (remove-there i (insert i s) ∙ sym h) (λ j n. remove-other i (insert i s) j n ∙ insert-other i s j n)
 
 pub insert-remove : (i : ℕ) (s : ℕ → Bool) → s i ≡ true → insert i (remove i s) ≡ s
 insert-remove i s h = by-one i (insert-there i (remove i s) ∙ sym h) (λ j n. insert-other i (remove i s) j n ∙ remove-other i s j n)
@@ -213,21 +164,6 @@ module _ {n : ℕ} {s : ℕ → Bool} (p : Bounded n s) where
   pub bounded-join : {t : ℕ → Bool} → Bounded n t → Bounded n (join s t)
   unfolding join
   bounded-join {t} q = record { clear = λ j h. ap (λ (b : Bool). b || t j) (p .clear j h) ∙ q .clear j h }
-
-  pub bounded-insert : (i : ℕ) → i < n → Bounded n (insert i s)
-  bounded-insert i l = record { clear = λ j h. insert-other i s j (λ q. omega arith) ∙ p .clear j h }
-
-  pub bounded-remove : (i : ℕ) → Bounded n (remove i s)
-  unfolding remove
-  bounded-remove i = record { clear = λ j h. ap (λ (b : Bool). not (eqb j i) && b) (p .clear j h) ∙ and-false (not (eqb j i)) }
-
-  -- a number of s is below n
-  pub bounded-in : (j : ℕ) → s j ≡ true → j < n
-  bounded-in j t = go (decLt j n)
-    where
-      go : Dec (j < n) → j < n
-      go (yes h) = h
-      go (no m) = absurd (true≢false (sym t ∙ p .clear j (omega arith)))
 
   -- two sets below n that agree there are the same
   pub bounded-ext : {t : ℕ → Bool} → Bounded n t → ((j : ℕ) → j < n → s j ≡ t j) → s ≡ t

@@ -1,13 +1,12 @@
--- What the tests of sets say. Assumes nothing.
+-- What the tests of sets say.
 use mathlib.Core.Path.{_≡_, refl, sym, ap, _∙_}
 use mathlib.Core.Bool.{Bool, true, false, not, _&&_, _||_, or-true, or-false, and-eq-true-iff, true≢false, false≢true}
 use Prim.Native.Nat.{ℕ, zero, suc, _+_, _<_}
 use native.Mathlib.Numerals.{add-one}
 use native.Mathlib.Decide.{ℕ-discrete}
 use native.Mathlib.Omega.{arith}
-use borrow.Author.Tests.{not-true, not-false}
-use Rattle.bitrow.specs.Set.{less, some, hasSome, part, equal, Bounded}
-use Rattle.bitrow.proofs.Sets.{less-at, bounded-ext}
+use Rattle.bitrow.specs.Set.{less, some, hasSome, part, equal}
+use Rattle.bitrow.proofs.Sets.{less-at}
 
 -- two tests with the same outcome
 pub same-test : (a b : Bool) → (a ≡ true → b ≡ true) → (b ≡ true → a ≡ true) → a ≡ b
@@ -31,7 +30,7 @@ some-skip s n e = some-next s n ∙ rw e (or-false (some s n))
 pub some-take : (s : ℕ → Bool) (n : ℕ) → s n ≡ true → some s (n + 1) ≡ true
 some-take s n e = some-next s n ∙ rw e (or-true (some s n))
 
-pub some-in : (s : ℕ → Bool) (n j : ℕ) → j < n → s j ≡ true → some s n ≡ true
+some-in : (s : ℕ → Bool) (n j : ℕ) → j < n → s j ≡ true → some s n ≡ true
 unfolding some
 some-in s zero j h e = absurd (omega arith)
 some-in s (suc n) j h e = go (some-in s n j) (ℕ-discrete j n)
@@ -40,19 +39,19 @@ some-in s (suc n) j h e = go (some-in s n j) (ℕ-discrete j n)
     go ih (yes p) = ap (λ (b : Bool). some s n || b) (ap s (sym p) ∙ e) ∙ or-true (some s n)
     go ih (no m) = ap (λ (b : Bool). b || s n) (ih (omega arith) e)
 
-pub some-clear : (s : ℕ → Bool) (n : ℕ) → ((j : ℕ) → j < n → s j ≡ false) → some s n ≡ false
+some-clear : (s : ℕ → Bool) (n : ℕ) → ((j : ℕ) → j < n → s j ≡ false) → some s n ≡ false
 unfolding some
 some-clear s zero f = refl
 some-clear s (suc n) f = ap (λ (b : Bool). b || s n) (some-clear s n (λ j h. f j (omega arith))) ∙ f n (omega arith)
 
-pub some-absent : (s : ℕ → Bool) (n : ℕ) → some s n ≡ false → (j : ℕ) → j < n → s j ≡ false
+some-absent : (s : ℕ → Bool) (n : ℕ) → some s n ≡ false → (j : ℕ) → j < n → s j ≡ false
 some-absent s n e j h = go (s j) refl
   where
     go : (b : Bool) → s j ≡ b → b ≡ false
     go true t = absurd (true≢false (sym (some-in s n j h t) ∙ e))
     go false t = refl
 
-pub some-found : (s : ℕ → Bool) (n : ℕ) → some s n ≡ true → (j : ℕ) × (j < n) × (s j ≡ true)
+some-found : (s : ℕ → Bool) (n : ℕ) → some s n ≡ true → (j : ℕ) × (j < n) × (s j ≡ true)
 unfolding some
 some-found s zero e = absurd (false≢true e)
 some-found s (suc n) e = go (some-found s n) (s n) refl e
@@ -86,10 +85,6 @@ pub hasSome-absent : (s : ℕ → Bool) → hasSome s ≡ false → (j : ℕ) �
 unfolding hasSome
 hasSome-absent s = some-absent s 256
 
-pub hasSome-cong : (s t : ℕ → Bool) → ((j : ℕ) → j < 256 → s j ≡ t j) → hasSome s ≡ hasSome t
-unfolding hasSome
-hasSome-cong s t = some-cong s t 256
-
 -- ---- a part below 256
 
 -- in s and not in t, or not so
@@ -117,26 +112,6 @@ part-in s t p j h e = go (t j) refl
     go true f = refl
     go false f = absurd (true≢false (sym p ∙ part-not s t j h e f))
 
-pub part-found : (s t : ℕ → Bool) → part s t ≡ false → (j : ℕ) × (j < 256) × (s j ≡ true) × (t j ≡ false)
-unfolding part
-part-found s t p =
-    let k = hasSome-found (less s t) (not-false (hasSome (less s t)) p) in
-    let d = and-eq-true-iff (s (k .0)) (not (t (k .0))) .0 (sym (less-at s t (k .0)) ∙ k .2) in
-    (k .0, k .1, d .0, not-true (t (k .0)) (d .1))
-
--- parts of sets that agree below 256
-pub part-cong : (s t u v : ℕ → Bool) → ((j : ℕ) → j < 256 → s j ≡ t j) → ((j : ℕ) → j < 256 → u j ≡ v j) → part s u ≡ part t v
-part-cong s t u v f g =
-    same-test (part s u) (part t v)
-    (λ p. part-all t v (λ j h e. sym (g j h) ∙ part-in s u p j h (f j h ∙ e)))
-    (λ p. part-all s u (λ j h e. g j h ∙ part-in t v p j h (sym (f j h) ∙ e)))
-
-pub part-self : (s : ℕ → Bool) → part s s ≡ true
-part-self s = part-all s s (λ j h e. e)
-
-pub part-trans : (s t u : ℕ → Bool) → part s t ≡ true → part t u ≡ true → part s u ≡ true
-part-trans s t u p q = part-all s u (λ j h e. part-in t u q j h (part-in s t p j h e))
-
 -- ---- the same below 256
 
 pub equal-all : (s t : ℕ → Bool) → ((j : ℕ) → j < 256 → s j ≡ t j) → equal s t ≡ true
@@ -149,26 +124,3 @@ equal-in s t e j h = let p = and-eq-true-iff (part s t) (part t s) .0 e in same-
 
 pub equal-self : (s : ℕ → Bool) → equal s s ≡ true
 equal-self s = equal-all s s (λ j h. refl)
-
-pub equal-not : (s t : ℕ → Bool) (j : ℕ) → j < 256 → s j ≡ not (t j) → equal s t ≡ false
-equal-not s t j h e = go (equal s t) refl
-  where
-    differs : (b : Bool) → b ≡ not b → ⊥
-    differs true = true≢false
-    differs false = false≢true
-
-    go : (b : Bool) → equal s t ≡ b → b ≡ false
-    go true q = absurd (differs (t j) (sym (equal-in s t q j h) ∙ e))
-    go false q = refl
-
-pub equal-found : (s t : ℕ → Bool) → equal s t ≡ false → (j : ℕ) × (j < 256) × (s j ≡ not (t j))
-unfolding equal
-equal-found s t e = go (part s t) refl e
-  where
-    go : (b : Bool) → part s t ≡ b → (b && part t s) ≡ false → (j : ℕ) × (j < 256) × (s j ≡ not (t j))
-    go false p q = let k = part-found s t p in (k .0, k .1, k .2 ∙ ap not (sym (k .3)))
-    go true p q = let k = part-found t s q in (k .0, k .1, k .3 ∙ ap not (sym (k .2)))
-
--- sets of numbers below 256 that are the same there are the same
-pub equal-sets : (s t : ℕ → Bool) → Bounded 256 s → Bounded 256 t → equal s t ≡ true → s ≡ t
-equal-sets s t p q e = bounded-ext p q (equal-in s t e)

@@ -1,4 +1,4 @@
--- Laws of a word's bits. Assumes nothing.
+-- Laws of a word's bits.
 use mathlib.Core.Path.{_≡_, refl, sym, ap, ap₂, _∙_, subst, fun-ext}
 use mathlib.Core.Bool.{Bool, true, false, not, _&&_, _||_, xor, and-false, and-self, true≢false}
 use Prim.Native.Nat.{ℕ, zero, suc, _+_, _-_, _*_, _/_, _%_, _^_, _≤_, _<_, min, max, zero-le}
@@ -71,7 +71,7 @@ bit-or = bit-by bitOr max (λ x y. x || y) or-shr or-step does
     does false true = refl
     does false false = refl
 
-pub bit-xor : (a b i : ℕ) → bit (bitXor a b) i ≡ xor (bit a i) (bit b i)
+bit-xor : (a b i : ℕ) → bit (bitXor a b) i ≡ xor (bit a i) (bit b i)
 unfolding xor
 bit-xor = bit-by bitXor differ xor xor-shr xor-step does
   where

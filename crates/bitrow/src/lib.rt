@@ -39,7 +39,7 @@ fn saturating_sub(i: usize, n: usize) -> usize
 }
 
 // The numbers below i.
-pub fn below(i: usize) -> [u64; 4]
+fn below(i: usize) -> [u64; 4]
     ensures { λ r. ⌜ bitAt r ≡ meet (under i) (under 256) ⌝ }
 {
     [

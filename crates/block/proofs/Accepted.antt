@@ -1,60 +1,22 @@
 -- What an acceptance tells: no check found a fault, and what was read is valid. Each is an equivalence, so that the other half
--- shows an acceptance. Assumes nothing.
+-- shows an acceptance.
 use mathlib.Core.Path.{_≡_, refl, sym, ap, _∙_}
 use mathlib.Core.Logic.{_↔_}
 use mathlib.Core.Bool.{Bool, true, false, _&&_, _||_, cond, and-true, and-false, false-or, and-assoc, and-comm, and-eq-true-iff}
 use mathlib.Core.List.{List, [], _∷_}
-use mathlib.Core.Option.{Option, none, some}
 use Prim.Native.Nat.{ℕ}
-use borrow.Author.Tests.{eqb-true, eq-eqb}
 use lib.Dec.{eqb}
 use lib.ListN.{length}
-use Rattle.block.specs.declared.Fault.{Fault}
-use Rattle.block.specs.declared.Fault.the-variants.{Nowhere, At}
+use Rattle.block.specs.declared.Fault.the-variants.{Nowhere}
 use Rattle.block.specs.Entry.{Settings, Entry, container, policy}
 use Rattle.block.specs.Bytes.{byteAt, numberAt, checksum}
-use Rattle.block.specs.Fault.{unless, clear}
-use Rattle.block.specs.Refusal.{Refusal, Check, refuse, firstRefusal, accepted, unlessRefused}
-use Rattle.block.specs.Reader.{within, labelsAt, rangeFaults, orderFaults, unusedFault, containerLayout, policyLayout, isContainer, layoutOf, policyIn, entryIn, settingsFault, settingsIn, settingsChecks, entryChecks, readSettings, readEntry}
+use Rattle.block.specs.Fault.{clear}
+use Rattle.block.specs.Refusal.{accepted}
+use Rattle.block.specs.Reader.{within, labelsAt, rangeFaults, orderFaults, unusedFault, containerLayout, policyLayout, isContainer, layoutOf, policySaid, entrySaid, settingsFault, settingsSaid, settingsChecks, entryChecks, readSettings, readEntry}
 use Rattle.block.specs.Written.{validEntry, validSettings}
 use Rattle.block.proofs.Faults.{clear-unless, clear-orElse}
 use Rattle.block.proofs.LabelLists.{valid-clear}
-
--- ---- checks in general
-
--- every check finds no fault
-abbrev pub Clear : List Check → Type 0
-Clear [] = Unit {0}
-Clear (c ∷ cs) = (c .fault ≡ Nowhere) × Clear cs
-
-refuse-none : (n : ℕ) (f : Fault) (r : Option Refusal) → (refuse n f r ≡ none) ↔ ((f ≡ Nowhere) × (r ≡ none))
-refuse-none n Nowhere r = (λ e. (refl, e), λ e. e .1)
-refuse-none n (At p) r = (λ e. (cc, cc), λ e. cc)
-
-pub none-clear : (cs : List Check) → (firstRefusal cs ≡ none) ↔ Clear cs
-none-clear [] = (λ e. tt, λ c. refl)
-none-clear (c ∷ cs) =
-    let h = refuse-none (c .number) (c .fault) (firstRefusal cs) in
-    (λ e. (h .0 e .0, none-clear cs .0 (h .0 e .1)), λ d. h .1 (d .0, none-clear cs .1 (d .1)))
-
-module _ {A : Type 0} where
-  accepted-none : (r : Option Refusal) (x y : A) → (unlessRefused r x ≡ accepted y) ↔ ((r ≡ none) × (x ≡ y))
-  accepted-none none x y = (λ e. (refl, cc), λ h. ap accepted (h .1))
-  accepted-none (some r) x y = (λ e. (cc, cc), λ h. cc)
-
-  pub accepted-clear : (cs : List Check) (x y : A) → (unlessRefused (firstRefusal cs) x ≡ accepted y) ↔ (Clear cs × (x ≡ y))
-  accepted-clear cs x y =
-      let h = accepted-none (firstRefusal cs) x y in
-      (λ e. (none-clear cs .0 (h .0 e .0), h .0 e .1), λ d. h .1 (none-clear cs .1 (d .0), d .1))
-
--- ---- the readers' checks
-
-unless-none : (t : Bool) (p : ℕ) → (unless t p ≡ Nowhere) ↔ (t ≡ true)
-unless-none true p = (λ e. refl, λ e. refl)
-unless-none false p = (λ e. cc, λ e. cc)
-
-equal : (m n p : ℕ) → (unless (eqb m n) p ≡ Nowhere) ↔ (m ≡ n)
-equal m n p = (λ e. eqb-true m n (unless-none (eqb m n) p .0 e), λ e. unless-none (eqb m n) p .1 (eq-eqb m n e))
+use Rattle.block.proofs.Checks.{unless-none, equal-none, accepted-clear}
 
 -- what holds of a block b that is read as the settings s
 pub record SettingsRead (b : List ℕ) (s : Settings) : Type 0 where
@@ -63,7 +25,7 @@ pub record SettingsRead (b : List ℕ) (s : Settings) : Type 0 where
   pub kind : byteAt b 0 ≡ 83
   pub ranges : settingsFault b ≡ Nowhere
   pub unused : unusedFault b (record { from = 3; to = 4 } ∷ record { from = 6; to = 510 } ∷ []) ≡ Nowhere
-  pub says : s ≡ settingsIn b
+  pub says : s ≡ settingsSaid b
 
 pub settings-accepted : (b : List ℕ) (s : Settings) → (readSettings b ≡ accepted s) ↔ SettingsRead b s
 unfolding readSettings settingsChecks
@@ -71,13 +33,13 @@ settings-accepted b s = (to, back)
   where
     to : readSettings b ≡ accepted s → SettingsRead b s
     to e =
-        let ((l, (c, (k, (r, (u, _))))), q) = accepted-clear (settingsChecks b) (settingsIn b) s .0 e in
-        record { long = equal _ _ _ .0 l; checked = equal _ _ _ .0 c; kind = equal _ _ _ .0 k; ranges = r; unused = u; says = sym q }
+        let ((l, (c, (k, (r, (u, _))))), q) = accepted-clear (settingsChecks b) (settingsSaid b) s .0 e in
+        record { long = equal-none _ _ _ .0 l; checked = equal-none _ _ _ .0 c; kind = equal-none _ _ _ .0 k; ranges = r; unused = u; says = sym q }
 
     back : SettingsRead b s → readSettings b ≡ accepted s
     back r =
-        accepted-clear (settingsChecks b) (settingsIn b) s .1
-        ((equal _ _ _ .1 r.long, (equal _ _ _ .1 r.checked, (equal _ _ _ .1 r.kind, (r.ranges, (r.unused, tt))))), sym r.says)
+        accepted-clear (settingsChecks b) (settingsSaid b) s .1
+        ((equal-none _ _ _ .1 r.long, (equal-none _ _ _ .1 r.checked, (equal-none _ _ _ .1 r.kind, (r.ranges, (r.unused, tt))))), sym r.says)
 
 -- what holds of a block b that is read as the entry e
 pub record EntryRead (b : List ℕ) (e : Entry) : Type 0 where
@@ -88,7 +50,7 @@ pub record EntryRead (b : List ℕ) (e : Entry) : Type 0 where
   pub ranges : rangeFaults b (layoutOf b .runs) ≡ Nowhere
   pub orders : orderFaults b (layoutOf b .runs) ≡ Nowhere
   pub unused : unusedFault b (layoutOf b .unused) ≡ Nowhere
-  pub says : e ≡ entryIn b
+  pub says : e ≡ entrySaid b
 
 pub entry-accepted : (s : Settings) (b : List ℕ) (e : Entry) → (readEntry s b ≡ accepted e) ↔ EntryRead b e
 unfolding readEntry entryChecks
@@ -96,13 +58,13 @@ entry-accepted s b e = (to, back)
   where
     to : readEntry s b ≡ accepted e → EntryRead b e
     to i =
-        let ((l, (c, (k, (m, (r, (o, (u, _))))))), q) = accepted-clear (entryChecks s b) (entryIn b) e .0 i in
-        record { long = equal _ _ _ .0 l; checked = equal _ _ _ .0 c; kind = unless-none _ _ .0 k; limits = m; ranges = r; orders = o; unused = u; says = sym q }
+        let ((l, (c, (k, (m, (r, (o, (u, _))))))), q) = accepted-clear (entryChecks s b) (entrySaid b) e .0 i in
+        record { long = equal-none _ _ _ .0 l; checked = equal-none _ _ _ .0 c; kind = unless-none _ _ .0 k; limits = m; ranges = r; orders = o; unused = u; says = sym q }
 
     back : EntryRead b e → readEntry s b ≡ accepted e
     back r =
-        accepted-clear (entryChecks s b) (entryIn b) e .1
-        ((equal _ _ _ .1 r.long, (equal _ _ _ .1 r.checked, (unless-none _ _ .1 r.kind, (r.limits, (r.ranges, (r.orders, (r.unused, tt))))))), sym r.says)
+        accepted-clear (entryChecks s b) (entrySaid b) e .1
+        ((equal-none _ _ _ .1 r.long, (equal-none _ _ _ .1 r.checked, (unless-none _ _ .1 r.kind, (r.limits, (r.ranges, (r.orders, (r.unused, tt))))))), sym r.says)
 
 -- ---- what is read is valid
 
@@ -111,17 +73,17 @@ and-left-comm true b c = refl
 and-left-comm false b c = sym (and-false b)
 
 module _ (s : Settings) (b : List ℕ) where
-  by-kind : (t : Bool) → let l = cond t (containerLayout b) (policyLayout b) in (clear (l .limits) && (clear (rangeFaults b (l .runs)) && clear (orderFaults b (l .runs)))) ≡ ((t || within 1 2 (byteAt b 1)) && validEntry s (cond t (container (labelsAt b 4 (byteAt b 1))) (policy (policyIn b))))
-  unfolding containerLayout policyLayout policyIn validEntry
+  by-kind : (t : Bool) → let l = cond t (containerLayout b) (policyLayout b) in (clear (l .limits) && (clear (rangeFaults b (l .runs)) && clear (orderFaults b (l .runs)))) ≡ ((t || within 1 2 (byteAt b 1)) && validEntry s (cond t (container (labelsAt b 4 (byteAt b 1))) (policy (policySaid b))))
+  unfolding containerLayout policyLayout policySaid validEntry
   by-kind true = simp (clear-unless, clear-orElse, and-true, valid-clear)
   by-kind false = simp (clear-unless, clear-orElse, and-true, valid-clear, false-or, and-assoc, and-comm, and-left-comm)
 
-  pub entry-clear : (clear (layoutOf b .limits) && (clear (rangeFaults b (layoutOf b .runs)) && clear (orderFaults b (layoutOf b .runs)))) ≡ ((isContainer b || within 1 2 (byteAt b 1)) && validEntry s (entryIn b))
-  unfolding layoutOf entryIn
+  pub entry-clear : (clear (layoutOf b .limits) && (clear (rangeFaults b (layoutOf b .runs)) && clear (orderFaults b (layoutOf b .runs)))) ≡ ((isContainer b || within 1 2 (byteAt b 1)) && validEntry s (entrySaid b))
+  unfolding layoutOf entrySaid
   entry-clear = by-kind (isContainer b)
 
-pub settings-clear : (b : List ℕ) → clear (settingsFault b) ≡ validSettings (settingsIn b)
-unfolding settingsFault settingsIn validSettings
+pub settings-clear : (b : List ℕ) → clear (settingsFault b) ≡ validSettings (settingsSaid b)
+unfolding settingsFault settingsSaid validSettings
 settings-clear b = simp (clear-unless, clear-orElse)
 
 pub settings-valid : (b : List ℕ) (s : Settings) → readSettings b ≡ accepted s → validSettings s ≡ true
@@ -134,4 +96,4 @@ accepted-valid s b e q =
     let r = entry-accepted s b e .0 q in
     let l = layoutOf b in
     let c : (clear (l .limits) && (clear (rangeFaults b (l .runs)) && clear (orderFaults b (l .runs)))) ≡ true = rw (r.limits, r.ranges, r.orders) in
-    ap (validEntry s) r.says ∙ and-eq-true-iff (isContainer b || within 1 2 (byteAt b 1)) (validEntry s (entryIn b)) .0 (sym (entry-clear s b) ∙ c) .1
+    ap (validEntry s) r.says ∙ and-eq-true-iff (isContainer b || within 1 2 (byteAt b 1)) (validEntry s (entrySaid b)) .0 (sym (entry-clear s b) ∙ c) .1

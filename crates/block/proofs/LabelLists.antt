@@ -1,5 +1,4 @@
 -- Labels in a block: no fault of range or order exactly where the labels that are read are in range and rising.
--- Assumes nothing.
 use mathlib.Core.Path.{_≡_, refl, sym, ap, _∙_}
 use mathlib.Core.Bool.{Bool, true, _&&_}
 use mathlib.Core.List.{List, [], _∷_, _++_}
@@ -11,7 +10,7 @@ use lib.ListN.{length}
 use lib.Seq.{getD-append-add}
 use Rattle.block.specs.declared.Fault.{Fault}
 use Rattle.block.specs.Entry.{Label}
-use Rattle.block.specs.Fault.{clear, first}
+use Rattle.block.specs.Fault.{clear, firstFrom}
 use Rattle.block.specs.Bytes.{numberAt}
 use Rattle.block.specs.Reader.{labelFault, rangeFault, riseFault, orderFault, labelAt, labelsAt}
 use Rattle.block.specs.Written.{numberBytes, labelBytes, inRange, allInRange, risingAfter, rising, validLabels}
@@ -19,7 +18,7 @@ use Rattle.block.proofs.Faults.{clear-unless, clear-orElse}
 
 -- a test over n positions, each 4 past the last, is the search for a fault over them
 module _ (f : ℕ → Fault) (test : ℕ → ℕ → Bool) (at : ℕ) where
-  by-fours : ((p : ℕ) → test p 0 ≡ true) → ((p n : ℕ) → test p (suc n) ≡ (clear (f p) && test (p + 4) n)) → (n i : ℕ) → clear (first (λ k. f (at + 4 * k)) i n) ≡ test (at + 4 * i) n
+  by-fours : ((p : ℕ) → test p 0 ≡ true) → ((p n : ℕ) → test p (suc n) ≡ (clear (f p) && test (p + 4) n)) → (n i : ℕ) → clear (firstFrom (λ k. f (at + 4 * k)) i n) ≡ test (at + 4 * i) n
   by-fours z s zero i = sym (z (at + 4 * i))
   by-fours z s (suc n) i =
       let q : at + 4 * i + 4 ≡ at + 4 * (i + 1) = omega arith in
@@ -30,11 +29,11 @@ module _ (b : List ℕ) where
   unfolding labelFault inRange labelAt
   label-clear p = simp (clear-orElse, clear-unless)
 
-  pub range-clear : (at n : ℕ) → clear (rangeFault b at n) ≡ allInRange (labelsAt b at n)
+  range-clear : (at n : ℕ) → clear (rangeFault b at n) ≡ allInRange (labelsAt b at n)
   unfolding rangeFault
   range-clear at n = rw sub-zero (by-fours (labelFault b) (λ p m. allInRange (labelsAt b p m)) at (λ p. refl) (λ p m. rw label-clear) n 0 ∙ rw add-zero)
 
-  pub order-clear : (at n : ℕ) → clear (orderFault b at n) ≡ rising (labelsAt b at n)
+  order-clear : (at n : ℕ) → clear (orderFault b at n) ≡ rising (labelsAt b at n)
   unfolding orderFault riseFault labelAt
   order-clear at zero = refl
   order-clear at (suc n) =

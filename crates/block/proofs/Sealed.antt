@@ -1,4 +1,4 @@
--- Laws of a block that begins with given bytes: its length, its bytes and its checksum. Assumes nothing.
+-- Laws of a block that begins with given bytes: its length, its bytes and its checksum.
 use mathlib.Core.Path.{_≡_, refl, sym, ap, _∙_}
 use mathlib.Core.List.{List, [], _++_, append-assoc}
 use Prim.Native.Nat.{ℕ, zero, suc, _+_, _-_, _%_, _≤_, _<_}
@@ -11,7 +11,7 @@ use Rattle.block.specs.declared.Fault.the-variants.{Nowhere}
 use Rattle.block.specs.Bytes.{byteAt, numberAt, weighted, checksum}
 use Rattle.block.specs.Reader.{zeroFault}
 use Rattle.block.specs.Written.{numberBytes, sealed}
-use Rattle.block.proofs.Faults.{between-all}
+use Rattle.block.proofs.Faults.{faults-all}
 use Rattle.block.proofs.Weights.{same-weight}
 
 -- a number past the first part of a list
@@ -74,4 +74,4 @@ module _ (front : List ℕ) (h : length front ≤ 510) where
 
   pub sealed-unused : (from : ℕ) → length front ≤ from → zeroFault (sealed front) from 510 ≡ Nowhere
   unfolding sealed zeroFault
-  sealed-unused from l = between-all _ from 510 (λ k m o. rw (eq-eqb _ 0 (past-front front 510 (checksum (filled 510 front)) h k (omega arith) o)))
+  sealed-unused from l = faults-all _ from 510 (λ k m o. rw (eq-eqb _ 0 (past-front front 510 (checksum (filled 510 front)) h k (omega arith) o)))

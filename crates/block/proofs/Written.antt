@@ -1,5 +1,6 @@
--- The block that says an entry, or settings, reads back as it, exactly if it is valid. Assumes nothing.
+-- The block that says an entry, or settings, reads back as it, exactly if it is valid.
 use mathlib.Core.Path.{_≡_, refl, sym, ap, _∙_}
+use mathlib.Core.Logic.{_↔_}
 use mathlib.Core.Bool.{true, _||_, and-eq-true-iff}
 use mathlib.Core.List.{List, [], _∷_, _++_, append-assoc}
 use Prim.Native.Nat.{ℕ, _+_, _*_, _≤_}
@@ -10,7 +11,7 @@ use lib.ListN.{length, length-append}
 use Rattle.block.specs.declared.Fault.the-variants.{Nowhere}
 use Rattle.block.specs.Entry.{Label, Direction, ingress, egress, Policy, Settings, Entry, container, policy}
 use Rattle.block.specs.Bytes.{byteAt}
-use Rattle.block.specs.Reader.{within, zeroFault, unusedFault, isContainer, layoutOf, containerLayout, policyLayout, directionOf, policyIn, entryIn, settingsIn, readSettings, readEntry}
+use Rattle.block.specs.Reader.{within, zeroFault, unusedFault, isContainer, layoutOf, containerLayout, policyLayout, directionOf, policySaid, entrySaid, settingsSaid, readSettings, readEntry}
 use Rattle.block.specs.Refusal.{accepted}
 use Rattle.block.specs.Written.{numberBytes, sealed, labelBytes, directionNumber, blockOf, settingsBlock, validLabels, validEntry, validSettings}
 use Rattle.block.proofs.Faults.{clear-none}
@@ -25,8 +26,8 @@ unfolding directionOf
 direction-back ingress = refl
 direction-back egress = refl
 
-policy-back : (p : Policy) (rest : List ℕ) → policyIn (80 ∷ directionNumber (p .direction) ∷ length (p .select) ∷ length (p .allow) ∷ (labelBytes (p .select) ++ (labelBytes (p .allow) ++ rest))) ≡ p
-unfolding policyIn
+policy-back : (p : Policy) (rest : List ℕ) → policySaid (80 ∷ directionNumber (p .direction) ∷ length (p .select) ∷ length (p .allow) ∷ (labelBytes (p .select) ++ (labelBytes (p .allow) ++ rest))) ≡ p
+unfolding policySaid
 policy-back p rest =
     let head : List ℕ = 80 ∷ directionNumber (p .direction) ∷ length (p .select) ∷ length (p .allow) ∷ [] in
     let next : 4 + 4 * length (p .select) ≡ length (head ++ labelBytes (p .select)) = omega (arith, length-bytes (p .select)) in
@@ -34,13 +35,13 @@ policy-back p rest =
     let a = rw append-assoc at (labels-read (head ++ labelBytes (p .select)) (p .allow) rest) in
     simp (direction-back, s, next, a)
 
-entry-back : (e : Entry) → entryIn (blockOf e) ≡ e
-unfolding entryIn blockOf
+entry-back : (e : Entry) → entrySaid (blockOf e) ≡ e
+unfolding entrySaid blockOf
 entry-back (container c) = rw sealed-begins (ap container (labels-read (67 ∷ length c ∷ 0 ∷ 0 ∷ []) c _))
 entry-back (policy p) = rw (sealed-begins, append-assoc) (ap policy (policy-back p _))
 
-settings-back : (s : Settings) → settingsIn (settingsBlock s) ≡ s
-unfolding settingsIn settingsBlock
+settings-back : (s : Settings) → settingsSaid (settingsBlock s) ≡ s
+unfolding settingsSaid settingsBlock
 settings-back s = rw (sealed-begins, number-back)
 
 -- ---- a block that is written reads back
@@ -49,7 +50,7 @@ short : (limit : ℕ) (ls : List Label) → validLabels limit ls ≡ true → le
 unfolding validLabels
 short limit ls v = leb-true (length ls) limit (and-eq-true-iff (leb (length ls) limit) _ .0 v .0)
 
-reads : (s : Settings) (e : Entry) (front : List ℕ) → let b = sealed front in length front ≤ 510 → entryIn b ≡ e → validEntry s e ≡ true → (isContainer b || eqb (byteAt b 0) 80) ≡ true → (isContainer b || within 1 2 (byteAt b 1)) ≡ true → unusedFault b (layoutOf b .unused) ≡ Nowhere → EntryRead b e
+reads : (s : Settings) (e : Entry) (front : List ℕ) → let b = sealed front in length front ≤ 510 → entrySaid b ≡ e → validEntry s e ≡ true → (isContainer b || eqb (byteAt b 0) 80) ≡ true → (isContainer b || within 1 2 (byteAt b 1)) ≡ true → unusedFault b (layoutOf b .unused) ≡ Nowhere → EntryRead b e
 reads s e front h q v k d u =
     let c = entry-clear s (sealed front) ∙ and-eq-true-iff _ _ .1 (d, ap (validEntry s) q ∙ v) in
     let l = and-eq-true-iff _ _ .0 c in
@@ -94,7 +95,7 @@ settings-reads s v =
     let front : List ℕ = 83 ∷ s .userKey ∷ s .systemKey ∷ 0 ∷ numberBytes (s .systemValue) in
     let h : length front ≤ 510 = omega arith in
     let b = sealed front in
-    let q : settingsIn b ≡ s = settings-back s in
+    let q : settingsSaid b ≡ s = settings-back s in
     let z = ap (λ (l : List ℕ). zeroFault l 3 4) (sealed-begins front) ∙ zero-at-3 83 (s .userKey) (s .systemKey) _ in
     let w = sealed-unused front h 6 (omega arith) in
     record { long = sealed-length front h; checked = sealed-checked front h; kind = rw sealed-begins; ranges = clear-none _ (settings-clear b ∙ ap validSettings q ∙ v); unused = rw (z, w); says = sym q }
@@ -106,8 +107,8 @@ pub settings-read : (s : Settings) → validSettings s ≡ true → readSettings
 settings-read s v = settings-accepted (settingsBlock s) s .1 (settings-reads s v)
 
 -- an entry is valid exactly if its block reads back as it
-pub valid-exactly : (s : Settings) (e : Entry) → (validEntry s e ≡ true → readEntry s (blockOf e) ≡ accepted e) × (readEntry s (blockOf e) ≡ accepted e → validEntry s e ≡ true)
+pub valid-exactly : (s : Settings) (e : Entry) → (validEntry s e ≡ true) ↔ (readEntry s (blockOf e) ≡ accepted e)
 valid-exactly s e = (written-read s e, accepted-valid s (blockOf e) e)
 
-pub settings-exactly : (s : Settings) → (validSettings s ≡ true → readSettings (settingsBlock s) ≡ accepted s) × (readSettings (settingsBlock s) ≡ accepted s → validSettings s ≡ true)
+pub settings-exactly : (s : Settings) → (validSettings s ≡ true) ↔ (readSettings (settingsBlock s) ≡ accepted s)
 settings-exactly s = (settings-read s, settings-valid (settingsBlock s) s)

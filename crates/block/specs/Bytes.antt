@@ -1,4 +1,4 @@
--- The bytes of a block, its numbers and its checksum. Assumes nothing.
+-- The bytes of a block, its numbers and its checksum.
 use mathlib.Core.List.{List}
 use Prim.Native.Nat.{ℕ, zero, suc, _+_, _*_, _%_}
 use lib.ListN.{getD}

@@ -1,4 +1,4 @@
--- What a block can say. Assumes nothing.
+-- What a block can say.
 use mathlib.Core.List.{List}
 use Prim.Native.Nat.{ℕ}
 

@@ -1,4 +1,4 @@
--- Where a test finds fault first. Assumes nothing.
+-- Where a test finds fault first.
 use mathlib.Core.Bool.{Bool, true, false}
 use mathlib.Core.List.{List, [], _∷_}
 use Prim.Native.Nat.{ℕ, zero, suc, _+_, _-_}
@@ -21,13 +21,13 @@ orElse Nowhere rest = rest
 orElse (At p) rest = At p
 
 -- the first fault among f i, f (i + 1), .., n of them
-abbrev pub first : (ℕ → Fault) → ℕ → ℕ → Fault
-first f i zero = Nowhere
-first f i (suc n) = orElse (f i) (first f (i + 1) n)
+abbrev pub firstFrom : (ℕ → Fault) → ℕ → ℕ → Fault
+firstFrom f i zero = Nowhere
+firstFrom f i (suc n) = orElse (f i) (firstFrom f (i + 1) n)
 
 -- the first fault among f i for from ≤ i < to
-abbrev pub between : (ℕ → Fault) → ℕ → ℕ → Fault
-between f from to = first f from (to - from)
+abbrev pub firstBetween : (ℕ → Fault) → ℕ → ℕ → Fault
+firstBetween f from to = firstFrom f from (to - from)
 
 module _ {A : Type 0} where
   -- the first fault that f finds in a list

@@ -1,4 +1,4 @@
--- The readers of blocks: refusals 3 to 9, and what an accepted block says. Assumes nothing.
+-- The readers of blocks: refusals 3 to 9, and what an accepted block says.
 use mathlib.Core.Bool.{Bool, _&&_, _||_, cond}
 use mathlib.Core.List.{List, [], _∷_, _++_}
 use Prim.Native.Nat.{ℕ, zero, suc, _+_, _-_, _*_}
@@ -7,8 +7,8 @@ use lib.ListN.{length}
 use Rattle.block.specs.declared.Fault.{Fault}
 use Rattle.block.specs.Entry.{Label, Direction, ingress, egress, Policy, Settings, Entry, container, policy}
 use Rattle.block.specs.Bytes.{byteAt, numberAt, checksum}
-use Rattle.block.specs.Fault.{unless, orElse, between, firstIn}
-use Rattle.block.specs.Refusal.{Check, check, firstRefusal, Read, unlessRefused}
+use Rattle.block.specs.Fault.{unless, orElse, firstBetween, firstIn}
+use Rattle.block.specs.Refusal.{Check, check, firstRefusal, Read, readUnless}
 
 -- low ≤ x ≤ high
 unfoldable pub within : ℕ → ℕ → ℕ → Bool
@@ -29,7 +29,7 @@ labelFault b p =
 
 -- the first key or value out of range, of n labels from `at`
 unfoldable pub rangeFault : List ℕ → ℕ → ℕ → Fault
-rangeFault b at n = between (λ k. labelFault b (at + 4 * k)) 0 n
+rangeFault b at n = firstBetween (λ k. labelFault b (at + 4 * k)) 0 n
 
 -- the key at p exceeds the key before it
 unfoldable pub riseFault : List ℕ → ℕ → Fault
@@ -37,7 +37,7 @@ riseFault b p = unless (ltb (numberAt b (p - 4)) (numberAt b p)) p
 
 -- the first key that does not rise, of n labels from `at`
 unfoldable pub orderFault : List ℕ → ℕ → ℕ → Fault
-orderFault b at n = between (λ k. riseFault b (at + 4 * k)) 1 n
+orderFault b at n = firstBetween (λ k. riseFault b (at + 4 * k)) 1 n
 
 -- 7. "A key or a value, settings included, is outside its range above."
 abbrev pub rangeFaults : List ℕ → List Run → Fault
@@ -64,7 +64,7 @@ pub record Range : Type 0 where
 
 -- the first byte that is not zero
 unfoldable pub zeroFault : List ℕ → ℕ → ℕ → Fault
-zeroFault b from to = between (λ i. unless (eqb (byteAt b i) 0) i) from to
+zeroFault b from to = firstBetween (λ i. unless (eqb (byteAt b i) 0) i) from to
 
 -- 9. "An unused byte before byte 510 is not zero."
 abbrev pub unusedFault : List ℕ → List Range → Fault
@@ -109,13 +109,13 @@ layoutOf b = cond (isContainer b) (containerLayout b) (policyLayout b)
 unfoldable pub directionOf : ℕ → Direction
 directionOf n = cond (eqb n 1) ingress egress
 
-unfoldable pub policyIn : List ℕ → Policy
-policyIn b =
+unfoldable pub policySaid : List ℕ → Policy
+policySaid b =
     let m = byteAt b 2 in
     record { direction = directionOf (byteAt b 1); select = labelsAt b 4 m; allow = labelsAt b (4 + 4 * m) (byteAt b 3) }
 
-unfoldable pub entryIn : List ℕ → Entry
-entryIn b = cond (isContainer b) (container (labelsAt b 4 (byteAt b 1))) (policy (policyIn b))
+unfoldable pub entrySaid : List ℕ → Entry
+entrySaid b = cond (isContainer b) (container (labelsAt b 4 (byteAt b 1))) (policy (policySaid b))
 
 -- ---- the settings block
 
@@ -129,8 +129,8 @@ settingsFault b =
     (orElse (unless (leb key 64) 2)
     (unless (cond (eqb key 0) (eqb value 0) (within 1 65535 value)) 4))
 
-unfoldable pub settingsIn : List ℕ → Settings
-settingsIn b = record { userKey = byteAt b 1; systemKey = byteAt b 2; systemValue = numberAt b 4 }
+unfoldable pub settingsSaid : List ℕ → Settings
+settingsSaid b = record { userKey = byteAt b 1; systemKey = byteAt b 2; systemValue = numberAt b 4 }
 
 -- ---- the checks, in their order
 
@@ -163,7 +163,7 @@ entryChecks s b =
     ∷ [])
 
 unfoldable pub readSettings : List ℕ → Read Settings
-readSettings b = unlessRefused (firstRefusal (settingsChecks b)) (settingsIn b)
+readSettings b = readUnless (firstRefusal (settingsChecks b)) (settingsSaid b)
 
 unfoldable pub readEntry : Settings → List ℕ → Read Entry
-readEntry s b = unlessRefused (firstRefusal (entryChecks s b)) (entryIn b)
+readEntry s b = readUnless (firstRefusal (entryChecks s b)) (entrySaid b)

@@ -1,4 +1,4 @@
--- The block that says an entry, and when an entry is valid. Assumes nothing.
+-- The block that says an entry, and when an entry is valid.
 use mathlib.Core.Bool.{Bool, true, _&&_, cond}
 use mathlib.Core.List.{List, [], _∷_, _++_}
 use Prim.Native.Nat.{ℕ, _+_, _-_, _/_, _%_}

@@ -1,4 +1,4 @@
--- What is put into a buffer, piece after piece. Assumes nothing.
+-- What is put into a buffer, piece after piece.
 use mathlib.Core.Path.{_≡_, sym, ap, ap₂, _∙_, subst}
 use mathlib.Core.List.{List, [], _∷_, _++_, append-assoc, append-nil}
 use Prim.Native.Nat.{ℕ, suc, _+_, _≤_, _<_}

@@ -1,4 +1,4 @@
--- What is written into a lent buffer, and what is kept of it. Assumes nothing.
+-- What is written into a lent buffer, and what is kept of it.
 use mathlib.Core.Path.{_≡_}
 use mathlib.Core.List.{List, _++_}
 use Prim.Native.Nat.{ℕ, _+_, _≤_}

@@ -1,19 +1,18 @@
--- What one container's words and bits make of a memory: the image of the changed registry. Assumes nothing.
+-- What one container's words and bits make of a memory: the image of the changed registry.
 use mathlib.Core.Path.{_≡_, refl, sym, ap, ap₂, _∙_, subst}
-use mathlib.Core.Bool.{Bool, true, false, _&&_, _||_, cond, and-true}
+use mathlib.Core.Bool.{Bool, true, false, _&&_, _||_, cond}
 use mathlib.Core.List.{List, [], _∷_, map}
 use mathlib.Core.Option.{Option, none, some}
 use Prim.Native.Nat.{ℕ, zero, suc, _+_, _-_, _/_, _%_, _<_, _≤_}
 use native.Mathlib.Nat.{sub-zero}
 use native.Mathlib.Decide.{ℕ-discrete}
 use native.Mathlib.Omega.{arith}
-use lib.Dec.{eqb, ltb}
+use lib.Dec.{eqb}
 use lib.ListN.{length, getD, set, replicate, length-set, length-replicate, getD-replicate}
 use lib.Seq.{getD-set-same, getD-set-other, set-getD}
-use borrow.Author.Tests.{lt-ltb, le-ltb}
-use Rattle.bitrow.specs.Bit.{bit, bitAt}
-use Rattle.bitrow.specs.Set.{nothing, under, insert}
-use Rattle.bitrow.proofs.Sets.{nothing-at, under-in, meet-at}
+use Rattle.bitrow.specs.Bit.{bitAt}
+use Rattle.bitrow.specs.Set.{nothing}
+use Rattle.bitrow.proofs.Sets.{nothing-at}
 use Rattle.bitrow.proofs.Sets.{at as point}
 use Rattle.block.specs.declared.Labels.{Labels}
 use Rattle.block.specs.Entry.{Container, Policy, Settings, ingress, egress, container}
@@ -22,28 +21,29 @@ use Rattle.block.specs.Reading.{word, padded, packed}
 use Rattle.model.specs.Table.{Table, on, at, stands}
 use Rattle.model.specs.Model.{containerSlots, policySlots, Model, Bits, empty, withContainer, matrixBit, selectedBit, allowedBit, computedBits}
 use Rattle.model.specs.Registry.{Registry, setWhere, changeContainer, opened}
-use Rattle.store.specs.Layout.{containerStart, selectedRow, allowedRow, Whole}
+use Rattle.store.specs.Layout.{settingsSize, containersStart, containerWords, policiesStart, policyWords, rowCount, matrixBand, selectedBand, allowedBand, containerStart, selectedRow, allowedRow, Whole}
 use Rattle.store.specs.Contents.{Contents, Holds}
 use Rattle.store.specs.Memory.{slotSet, withSlot, withRow, withColumn, changed, cleared, blank}
 use Rattle.store.proofs.Cases.{by-eqb, by-ltb}
 use Rattle.store.proofs.Carried.{SameContents, holds-as, holds-by, slot-in, slot-out, slot-bits, holds-slot, row-words, row-out, holds-row, holds-cleared}
 use Rattle.store.proofs.Columns.{column-in, column-out, column-words, holds-column}
 use Rattle.formed.specs.Words.{labelWord, partWord, settingsWord, containerWord, policyWord}
-use Rattle.formed.specs.Registry.{modelIn, registryIn, entryWord, storedBit, contentsOf, image, freeOr, Acceptable, wellFormed}
+use Rattle.formed.specs.Registry.{modelIn, registryIn, entryWord, storedBit, contentsOf, image, validContainer, Acceptable, wellFormed}
 use Rattle.formed.specs.Labels.{unpacked}
 use Rattle.formed.proofs.Tests.{both}
 use Rattle.formed.proofs.Parts.{labels-few}
 use Rattle.formed.proofs.Slots.{valid-container}
-use Rattle.formed.proofs.Standing.{meet-in, word-none, word-skip, word-take, two-words}
-use Rattle.formed.proofs.Back.{registry-image, written}
+use Rattle.formed.proofs.Back.{registry-image, image-written}
 use Rattle.formed.proofs.Acceptable.{containers-size}
 use Rattle.formed.proofs.Formed.{formed-memory, formed-holds, acceptable-image}
 use Rattle.formed.proofs.LabelLaws.{padded-at, unpacked-back}
-use Rattle.formed.proofs.StoredLaws.{Fit, stored-matrix, stored-selected, stored-allowed, by-table}
+use Rattle.formed.proofs.StoredLaws.{Fit, word-settings, word-container, word-policy, by-part, slot-container, stored-matrix, stored-selected, stored-allowed, by-table}
 use Rattle.sets.specs.Sets.{bits, SetsOf}
 use Rattle.reach.specs.Sides.{lineBit}
 use Rattle.reach.proofs.Model.{line-row, line-column}
-use Rattle.container_changes.specs.OneContainer.{SaysContainer, slotWords, bitsSet, holdingSet, refreshed}
+use Rattle.container_bits.specs.ContainerBits.{slotWords, bitsSet, holdingSet}
+use Rattle.container_bits.proofs.HoldingLaws.{holding-at}
+use Rattle.container_changes.specs.OneContainer.{SaysContainer, refreshed}
 
 -- ---- labels as a count and words
 
@@ -70,7 +70,7 @@ eight-at w (suc (suc (suc (suc (suc (suc zero)))))) h = refl
 eight-at w (suc (suc (suc (suc (suc (suc (suc zero))))))) h = refl
 eight-at w (suc (suc (suc (suc (suc (suc (suc (suc j)))))))) h = absurd (omega arith)
 
-packed-word : (x : Container) (k : ℕ) → k < 9 → getD (slotWords (packed x)) k 0 ≡ containerWord (some x) k
+packed-word : (x : Container) (k : ℕ) → k < containerWords → getD (slotWords (packed x)) k 0 ≡ containerWord (some x) k
 unfolding slotWords packed partWord labelWord
 packed-word x zero h = omega arith
 packed-word x (suc j) h = eight-at (padded 8 (map word x)) j (omega arith) ∙ padded-at 8 (map word x) j (omega arith)
@@ -80,61 +80,56 @@ module _ {s : Settings} {l : Labels} (g : SaysContainer s l) where
   unfolding packed
   slot-count = omega (arith, ap (λ (x : Labels). x .count) (g .exact), labels-few 8 (unpacked l) (valid-container s (unpacked l) (g .valid)))
 
-  slot-word : (k : ℕ) → k < 9 → getD (slotWords l) k 0 ≡ containerWord (some (unpacked l)) k
+  slot-word : (k : ℕ) → k < containerWords → getD (slotWords l) k 0 ≡ containerWord (some (unpacked l)) k
   slot-word k h = ap (λ (x : Labels). getD (slotWords x) k 0) (g .exact) ∙ packed-word (unpacked l) k h
 
 -- ---- the words of a container's slot
 
 module _ (p : Model) (c : ℕ) (o : Option Container) where
   -- those of the other slots
-  other-word : (k : ℕ) → (3 ≤ k → k < 2307 → (k - 3) / 9 ≡ c → ⊥) → entryWord p k ≡ entryWord (withContainer p c o) k
-  unfolding entryWord withContainer
+  other-word : (k : ℕ) → (containersStart ≤ k → k < policiesStart → (k - containersStart) / containerWords ≡ c → ⊥) → entryWord p k ≡ entryWord (withContainer p c o) k
+  unfolding withContainer
   other-word k n =
-      let s = settingsWord (p .settings) k in
-      let x = containerWord (at (p .containers) ((k - 3) / 9)) ((k - 3) % 9) in
-      let z = containerWord (at (set (p .containers) c o) ((k - 3) / 9)) ((k - 3) % 9) in
-      let y = policyWord (at (p .policies) ((k - 2307) / 11)) ((k - 2307) % 11) in
-      by-ltb (λ t. cond t s (cond (ltb k 2307) x y) ≡ cond t s (cond (ltb k 2307) z y)) k 3
-      (λ l. refl)
-      (λ l. by-ltb (λ t. cond t x y ≡ cond t z y) k 2307
-      (λ h. ap (λ (e : Option Container). containerWord e ((k - 3) % 9)) (sym (getD-set-other (p .containers) c ((k - 3) / 9) o none (λ e. n l h e))))
-      (λ h. refl))
+      by-part (λ w. entryWord p k ≡ w) (withContainer p c o) k
+      (λ l. word-settings p k l)
+      (λ l h. word-container p k l h ∙ ap (λ (e : Option Container). containerWord e ((k - containersStart) % containerWords))
+      (sym (getD-set-other (p .containers) c ((k - containersStart) / containerWords) o none (λ e. n l h e))))
+      (λ h. word-policy p k h)
 
   -- those of the slot
-  slot-words : (j : ℕ) → c < containerSlots → length (p .containers) ≡ containerSlots → j < 9 → containerWord o j ≡ entryWord (withContainer p c o) (containerStart c + j)
-  unfolding entryWord withContainer
+  slot-words : (j : ℕ) → c < containerSlots → length (p .containers) ≡ containerSlots → j < containerWords
+      → containerWord o j ≡ entryWord (withContainer p c o) (containerStart c + j)
+  unfolding withContainer
   slot-words j hc long h =
-      let a : (containerStart c + j - 3) / 9 ≡ c = omega arith in
-      let b : (containerStart c + j - 3) % 9 ≡ j = omega arith in
       let e : at (set (p .containers) c o) c ≡ o = getD-set-same (p .containers) c o none (omega arith) in
-      rw (le-ltb (containerStart c + j) 3 (omega arith), lt-ltb (containerStart c + j) 2307 (omega arith), a, b, e)
+      sym (slot-container (withContainer p c o) c j hc h ∙ ap (λ (x : Option Container). containerWord x j) e)
 
 -- the registry with this at container slot c, its bits as they were
 abbrev pub placed : Registry → ℕ → Option Container → Registry
 placed r c o = record { model = withContainer (r .model) c o; bits = r .bits }
 
 module _ (r : Registry) (c : ℕ) (hc : c < containerSlots) (long : length (r .model .containers) ≡ containerSlots) (o : Option Container)
-    (ws : List ℕ) (size : 9 ≤ length ws) (said : (k : ℕ) → k < 9 → getD ws k 0 ≡ containerWord o k) where
+    (ws : List ℕ) (size : containerWords ≤ length ws) (said : (k : ℕ) → k < containerWords → getD ws k 0 ≡ containerWord o k) where
   abbrev over : Contents
-  over = withSlot (contentsOf r) (containerStart c) 9 ws
+  over = withSlot (contentsOf r) (containerStart c) containerWords ws
 
   placed-word : (k : ℕ) → over .words k ≡ entryWord (withContainer (r .model) c o) k
   unfolding contentsOf
   placed-word k =
       by-ltb (λ t. over .words k ≡ entryWord (withContainer (r .model) c o) k) k (containerStart c)
-      (λ l. slot-out (contentsOf r) (containerStart c) 9 ws k (λ a b. omega arith) ∙ other-word (r .model) c o k (λ a b e. omega arith))
-      (λ l. by-ltb (λ t. over .words k ≡ entryWord (withContainer (r .model) c o) k) k (containerStart c + 9)
+      (λ l. slot-out (contentsOf r) (containerStart c) containerWords ws k (λ a b. omega arith) ∙ other-word (r .model) c o k (λ a b e. omega arith))
+      (λ l. by-ltb (λ t. over .words k ≡ entryWord (withContainer (r .model) c o) k) k (containerStart c + containerWords)
       (λ h. let e : containerStart c + (k - containerStart c) ≡ k = omega arith in
-      slot-in (contentsOf r) (containerStart c) 9 ws k l h ∙ said (k - containerStart c) (omega arith)
+      slot-in (contentsOf r) (containerStart c) containerWords ws k l h ∙ said (k - containerStart c) (omega arith)
       ∙ slot-words (r .model) c o (k - containerStart c) hc long (omega arith) ∙ ap (entryWord (withContainer (r .model) c o)) e)
-      (λ h. slot-out (contentsOf r) (containerStart c) 9 ws k (λ a b. omega arith) ∙ other-word (r .model) c o k (λ a b e. omega arith)))
+      (λ h. slot-out (contentsOf r) (containerStart c) containerWords ws k (λ a b. omega arith) ∙ other-word (r .model) c o k (λ a b e. omega arith)))
 
   placed-same : SameContents over (contentsOf (placed r c o))
   unfolding contentsOf
-  placed-same = record { words = λ k l. placed-word k; bits = λ x y hx hy. ap (λ (f : ℕ → ℕ → Bool). f x y) (slot-bits (contentsOf r) (containerStart c) 9 ws) }
+  placed-same = record { words = λ k l. placed-word k; bits = λ x y hx hy. ap (λ (f : ℕ → ℕ → Bool). f x y) (slot-bits (contentsOf r) (containerStart c) containerWords ws) }
 
-  pub holds-placed : {m : List ℕ} → Holds m (contentsOf r) → Holds (slotSet m (containerStart c) 9 ws) (contentsOf (placed r c o))
-  holds-placed h = holds-as (holds-slot h (containerStart c) 9 ws (omega arith) size) (contentsOf (placed r c o)) placed-same
+  pub holds-placed : {m : List ℕ} → Holds m (contentsOf r) → Holds (slotSet m (containerStart c) containerWords ws) (contentsOf (placed r c o))
+  holds-placed h = holds-as (holds-slot h (containerStart c) containerWords ws (omega arith) size) (contentsOf (placed r c o)) placed-same
 
 -- ---- a container's bits
 
@@ -179,20 +174,20 @@ module _ (r : Registry) (c : ℕ) (hc : c < containerSlots) (t : Bits) {row colu
   k1 = withRow k0 c (bitAt row)
 
   abbrev k2 : Contents
-  k2 = withColumn k1 0 1 256 c (bitAt column)
+  k2 = withColumn k1 matrixBand c (bitAt column)
 
   abbrev k3 : Contents
-  k3 = withColumn k2 256 2 128 c (bitAt selected)
+  k3 = withColumn k2 selectedBand c (bitAt selected)
 
   abbrev k4 : Contents
-  k4 = withColumn k3 257 2 128 c (bitAt allowed)
+  k4 = withColumn k3 allowedBand c (bitAt allowed)
 
   matrix-new : (x y : ℕ) → x < containerSlots → y < containerSlots → k4 .bits x y ≡ new .matrix x y
   unfolding changed withRow contentsOf
   matrix-new x y hx hy =
-      point (column-out k3 257 2 128 c (bitAt allowed) x (λ i h e. omega arith)
-      ∙ column-out k2 256 2 128 c (bitAt selected) x (λ i h e. omega arith)
-      ∙ column-in k1 0 1 256 c (bitAt column) x x (omega arith) hx (omega arith)) y
+      point (column-out k3 allowedBand c (bitAt allowed) x (λ i h e. omega arith)
+      ∙ column-out k2 selectedBand c (bitAt selected) x (λ i h e. omega arith)
+      ∙ column-in k1 matrixBand c (bitAt column) x x (omega arith) hx (omega arith)) y
       ∙ ap (cond (eqb y c) (bitAt column x)) (by-eqb (λ s. cond s (bitAt row) (k0 .bits x) y ≡ cond s (bitAt row y) (k0 .bits x y)) x c (λ _. refl) (λ _. refl))
       ∙ crossed c (t .matrix) (r .bits .matrix) x y (bitAt column x) (bitAt row y) (k0 .bits x y) (g .column x hx) (g .row y hy) (point (stored-matrix (r .bits) x hx) y)
 
@@ -200,22 +195,22 @@ module _ (r : Registry) (c : ℕ) (hc : c < containerSlots) (t : Bits) {row colu
   unfolding changed contentsOf
   selected-new q y hq =
       let x = selectedRow q in
-      point (column-out k3 257 2 128 c (bitAt allowed) x (λ i h e. omega arith) ∙ column-in k2 256 2 128 c (bitAt selected) x q (omega arith) hq refl) y
-      ∙ ap (cond (eqb y c) (bitAt selected q)) (point (column-out k1 0 1 256 c (bitAt column) x (λ i h e. omega arith) ∙ row-out k0 c (bitAt row) x (λ e. omega arith)) y)
+      point (column-out k3 allowedBand c (bitAt allowed) x (λ i h e. omega arith) ∙ column-in k2 selectedBand c (bitAt selected) x q (omega arith) hq refl) y
+      ∙ ap (cond (eqb y c) (bitAt selected q)) (point (column-out k1 matrixBand c (bitAt column) x (λ i h e. omega arith) ∙ row-out k0 c (bitAt row) x (λ e. omega arith)) y)
       ∙ crossing c (t .selected) (r .bits .selected) q y (bitAt selected q) (k0 .bits x y) (g .selected q hq) (point (stored-selected (r .bits) q) y)
 
   allowed-new : (q y : ℕ) → q < policySlots → k4 .bits (allowedRow q) y ≡ new .allowed q y
   unfolding changed contentsOf
   allowed-new q y hq =
       let x = allowedRow q in
-      point (column-in k3 257 2 128 c (bitAt allowed) x q (omega arith) hq refl) y
-      ∙ ap (cond (eqb y c) (bitAt allowed q)) (point (column-out k2 256 2 128 c (bitAt selected) x (λ i h e. omega arith)
-      ∙ column-out k1 0 1 256 c (bitAt column) x (λ i h e. omega arith) ∙ row-out k0 c (bitAt row) x (λ e. omega arith)) y)
+      point (column-in k3 allowedBand c (bitAt allowed) x q (omega arith) hq refl) y
+      ∙ ap (cond (eqb y c) (bitAt allowed q)) (point (column-out k2 selectedBand c (bitAt selected) x (λ i h e. omega arith)
+      ∙ column-out k1 matrixBand c (bitAt column) x (λ i h e. omega arith) ∙ row-out k0 c (bitAt row) x (λ e. omega arith)) y)
       ∙ crossing c (t .allowed) (r .bits .allowed) q y (bitAt allowed q) (k0 .bits x y) (g .allowed q hq) (point (stored-allowed (r .bits) q) y)
 
-  stored-new : (x y : ℕ) → x < 512 → y < 256 → k4 .bits x y ≡ storedBit new x y
+  stored-new : (x y : ℕ) → x < rowCount → y < containerSlots → k4 .bits x y ≡ storedBit new x y
   stored-new x y hx hy =
-      let q = (x - 256) / 2 in
+      let q = (x - containerSlots) / 2 in
       by-table (λ t. k4 .bits x y ≡ t) new x y
       (λ l. matrix-new x y l hy)
       (λ l e. let d : x ≡ selectedRow q = omega arith in ap (λ (z : ℕ). k4 .bits z y) d ∙ selected-new q y (omega arith))
@@ -223,8 +218,8 @@ module _ (r : Registry) (c : ℕ) (hc : c < containerSlots) (t : Bits) {row colu
 
   words-new : k4 .words ≡ k0 .words
   words-new =
-      column-words k3 257 2 128 c (bitAt allowed) ∙ column-words k2 256 2 128 c (bitAt selected)
-      ∙ column-words k1 0 1 256 c (bitAt column) ∙ row-words k0 c (bitAt row)
+      column-words k3 allowedBand c (bitAt allowed) ∙ column-words k2 selectedBand c (bitAt selected)
+      ∙ column-words k1 matrixBand c (bitAt column) ∙ row-words k0 c (bitAt row)
 
   abbrev pub renewed : Registry
   renewed = record { model = r .model; bits = new }
@@ -237,9 +232,9 @@ module _ (r : Registry) (c : ℕ) (hc : c < containerSlots) (t : Bits) {row colu
   unfolding bitsSet
   holds-bits h =
       let h1 = holds-row h c row (omega arith) in
-      let h2 = holds-column 0 1 256 c column h1 (omega arith) (omega arith) hc in
-      let h3 = holds-column 256 2 128 c selected h2 (omega arith) (omega arith) hc in
-      holds-as (holds-column 257 2 128 c allowed h3 (omega arith) (omega arith) hc) (contentsOf renewed) renewed-same
+      let h2 = holds-column matrixBand c column h1 (omega arith) (omega arith, omega arith) hc in
+      let h3 = holds-column selectedBand c selected h2 (omega arith) (omega arith, omega arith) hc in
+      holds-as (holds-column allowedBand c allowed h3 (omega arith) (omega arith, omega arith) hc) (contentsOf renewed) renewed-same
 
 -- ---- a container that goes: "a bit of an empty place being clear"
 
@@ -268,14 +263,14 @@ module _ (m : List ℕ) (ok : wellFormed m ≡ true) (c : ℕ) (hc : c < contain
   unfolding withContainer
   free-slot = let n = containers-size m in getD-set-same (held .model .containers) c none none (omega arith)
 
-  pub taken : (clear : List ℕ) {d e ws : List ℕ} → bitAt clear ≡ nothing → ws ≡ replicate 11 0
-      → d ≡ slotSet m (containerStart c) 9 ws → e ≡ bitsSet d c clear clear clear clear → Fit e → e ≡ image (changeContainer held c none)
+  pub taken : (clear : List ℕ) {d e ws : List ℕ} → bitAt clear ≡ nothing → ws ≡ replicate policyWords 0
+      → d ≡ slotSet m (containerStart c) containerWords ws → e ≡ bitsSet d c clear clear clear clear → Fit e → e ≡ image (changeContainer held c none)
   unfolding changeContainer
   taken clear {d} {e} {ws} z w v q fit =
-      let size : 9 ≤ length ws = omega (arith, ap length w, length-replicate {A = ℕ} 11 0) in
+      let size : containerWords ≤ length ws = omega (arith, ap length w, length-replicate {A = ℕ} policyWords 0) in
       let placing : Holds d (contentsOf (placed held c none)) = holds-by (holds-placed held c hc (containers-size m) none ws size
-      (λ k h. ap (λ (l : List ℕ). getD l k 0) w ∙ getD-replicate 11 k 0 0 (omega arith)) (formed-holds m ok)) v in
-      written (changeContainer held c none) e
+      (λ k h. ap (λ (l : List ℕ). getD l k 0) w ∙ getD-replicate policyWords k 0 0 (omega arith)) (formed-holds m ok)) v in
+      image-written (changeContainer held c none) e
       (holds-by (holds-bits (placed held c none) c hc (computedBits (withContainer (held .model) c none)) (free-bits (withContainer (held .model) c none) c free-slot clear z) placing) q) fit
 
 -- ---- a container's bits by the rules, from the entries as they stand
@@ -297,7 +292,7 @@ pub refresh-done : (m : List ℕ) → wellFormed m ≡ true → (c : ℕ) → c 
 unfolding registryIn
 refresh-done m ok c hc {e} g q fit =
     let r = registryIn m in
-    written (byRules (r .bits) c (r .model)) e
+    image-written (byRules (r .bits) c (r .model)) e
     (holds-by (holds-bits r c hc (computedBits (r .model)) g (formed-holds m ok)) q) fit
     ∙ ap image (sym (refreshed-is r c))
 
@@ -330,7 +325,7 @@ placed-acceptable r ok c hc x v =
       containers = length-set t c (some x) ∙ ok .containers;
       policies = ok .policies;
       settings = ok .settings;
-      container = placed-each t c x within (freeOr (λ y. validEntry (r .model .settings) (container y))) (ok .container) v;
+      container = placed-each t c x within (validContainer (r .model .settings)) (ok .container) v;
       policy = ok .policy;
       matrix = λ a b e. let h = both (stands t a) (stands t b) (ok .matrix a b e) in ap₂ _&&_ (still a (h .0)) (still b (h .1));
       selected = λ q b e. let h = both (stands (r .model .policies) q) (stands t b) (ok .selected q b e) in ap₂ _&&_ (h .0) (still b (h .1));
@@ -350,11 +345,11 @@ module _ (m : List ℕ) (ok : wellFormed m ≡ true) (c : ℕ) (hc : c < contain
   unfolding registryIn
   come-acceptable = placed-acceptable (registryIn m) (formed-memory m ok .acceptable) c hc (unpacked l) (says .valid)
 
-  module _ {e ws : List ℕ} (w : ws ≡ slotWords l) (q : e ≡ slotSet m (containerStart c) 9 ws) (fit : Fit e) where
+  module _ {e ws : List ℕ} (w : ws ≡ slotWords l) (q : e ≡ slotSet m (containerStart c) containerWords ws) (fit : Fit e) where
     come-image : e ≡ image come
     unfolding slotWords
     come-image =
-        written come e
+        image-written come e
         (holds-by (holds-placed (registryIn m) c hc (containers-size m) (some (unpacked l)) ws (omega (arith, ap length w))
         (λ k h. ap (λ (v : List ℕ). getD v k 0) w ∙ slot-word says k h) (formed-holds m ok)) q) fit
 
@@ -366,35 +361,6 @@ module _ (m : List ℕ) (ok : wellFormed m ≡ true) (c : ℕ) (hc : c < contain
     put-done s =
         s ∙ ap (λ (r : Registry). image (refreshed r c)) (ap registryIn come-image ∙ registry-image come come-acceptable)
         ∙ ap image (refreshed-placed (registryIn m) c (some (unpacked l)))
-
--- ---- the policies whose set has c
-
-module _ (sets : ℕ → ℕ → Bool) (c : ℕ) where
-  -- of 64 from a number on, gathered one by one
-  module _ (first : ℕ) where
-    abbrev those : ℕ → ℕ → Bool
-    those k c = sets (first + k) c
-
-    pub holding-none : bit 0 ≡ holdingSet 0 those c
-    unfolding holdingSet
-    holding-none = word-none (λ k. those k c)
-
-    pub holding-take : (k w v : ℕ) → bit w ≡ holdingSet k those c → k < 64 → bit v ≡ insert (k % 64) (bit w) → sets (first + k) c ≡ true → bit v ≡ holdingSet (k + 1) those c
-    unfolding holdingSet
-    holding-take k w v e h f t = word-take (λ k. those k c) k w e v h f t
-
-    pub holding-skip : (k w : ℕ) → bit w ≡ holdingSet k those c → sets (first + k) c ≡ false → bit w ≡ holdingSet (k + 1) those c
-    unfolding holdingSet
-    holding-skip k w e t = word-skip (λ k. those k c) k w e t
-
-  pub holding-row : (a b : ℕ) → bit a ≡ holdingSet 64 (λ k. sets (0 + k)) c → bit b ≡ holdingSet 64 (λ k. sets (64 + k)) c → bitAt (a ∷ b ∷ 0 ∷ 0 ∷ []) ≡ holdingSet 128 sets c
-  unfolding holdingSet
-  holding-row a b e f =
-      two-words (λ q. sets q c) a b (λ i h. point e i ∙ meet-in (λ k. sets (0 + k) c) 64 i h) (λ i h. point f i ∙ meet-in (λ k. sets (64 + k) c) 64 i h)
-
-holding-at : (n : ℕ) (s : ℕ → ℕ → Bool) (c q : ℕ) → q < n → holdingSet n s c q ≡ s q c
-unfolding holdingSet
-holding-at n s c q h = meet-at (λ i. s i c) (under n) q ∙ ap (λ (t : Bool). s q c && t) (under-in n q h) ∙ and-true (s q c)
 
 -- ---- the rows that the rules give of a model's sets
 
@@ -416,10 +382,10 @@ none-free zero i = refl
 none-free (suc n) zero = refl
 none-free (suc n) (suc i) = none-free n i
 
-abbrev settingsWords : Settings → List ℕ
-settingsWords s = s .userKey ∷ s .systemKey ∷ s .systemValue ∷ 0 ∷ 0 ∷ 0 ∷ 0 ∷ 0 ∷ 0 ∷ 0 ∷ 0 ∷ []
+abbrev startWords : Settings → List ℕ
+startWords s = s .userKey ∷ s .systemKey ∷ s .systemValue ∷ 0 ∷ 0 ∷ 0 ∷ 0 ∷ 0 ∷ 0 ∷ 0 ∷ 0 ∷ []
 
-three-at : (s : Settings) (k : ℕ) → k < 3 → getD (settingsWords s) k 0 ≡ settingsWord s k
+three-at : (s : Settings) (k : ℕ) → k < settingsSize → getD (startWords s) k 0 ≡ settingsWord s k
 three-at s zero h = refl
 three-at s (suc zero) h = refl
 three-at s (suc (suc zero)) h = refl
@@ -427,28 +393,26 @@ three-at s (suc (suc (suc k))) h = absurd (omega arith)
 
 module _ (s : Settings) where
   abbrev begun : Contents
-  begun = withSlot blank 0 3 (settingsWords s)
+  begun = withSlot blank 0 settingsSize (startWords s)
 
   begun-word : (k : ℕ) → begun .words k ≡ entryWord (empty s) k
-  unfolding entryWord empty blank
+  unfolding empty blank
   begun-word k =
-      let x = containerWord (at (replicate containerSlots none) ((k - 3) / 9)) ((k - 3) % 9) in
-      let y = policyWord (at (replicate policySlots none) ((k - 2307) / 11)) ((k - 2307) % 11) in
-      let ex : x ≡ 0 = ap (λ (o : Option Container). containerWord o ((k - 3) % 9)) (none-free containerSlots ((k - 3) / 9)) in
-      let ey : y ≡ 0 = ap (λ (o : Option Policy). policyWord o ((k - 2307) % 11)) (none-free policySlots ((k - 2307) / 11)) in
-      by-ltb (λ t. begun .words k ≡ cond t (settingsWord s k) (cond (ltb k 2307) x y)) k 3
-      (λ l. slot-in blank 0 3 (settingsWords s) k (omega arith) (omega arith) ∙ ap (λ (i : ℕ). getD (settingsWords s) i 0) (sub-zero k) ∙ three-at s k l)
-      (λ l. slot-out blank 0 3 (settingsWords s) k (λ a b. omega arith) ∙ by-ltb (λ t. 0 ≡ cond t x y) k 2307 (λ _. sym ex) (λ _. sym ey))
+      let out : settingsSize ≤ k → begun .words k ≡ 0 = λ l. slot-out blank 0 settingsSize (startWords s) k (λ a b. omega arith) in
+      by-part (λ w. begun .words k ≡ w) (empty s) k
+      (λ l. slot-in blank 0 settingsSize (startWords s) k (omega arith) (omega arith) ∙ ap (λ (i : ℕ). getD (startWords s) i 0) (sub-zero k) ∙ three-at s k l)
+      (λ l h. out l ∙ sym (ap (λ (o : Option Container). containerWord o ((k - containersStart) % containerWords)) (none-free containerSlots ((k - containersStart) / containerWords))))
+      (λ h. out (omega arith) ∙ sym (ap (λ (o : Option Policy). policyWord o ((k - policiesStart) % policyWords)) (none-free policySlots ((k - policiesStart) / policyWords))))
 
   begun-bit : (x y : ℕ) → begun .bits x y ≡ storedBit (opened s .bits) x y
   unfolding opened blank
-  begun-bit x y = ap (λ (f : ℕ → ℕ → Bool). f x y) (slot-bits blank 0 3 (settingsWords s)) ∙ by-table (λ t. false ≡ t) (opened s .bits) x y (λ _. refl) (λ _ _. refl) (λ _ _. refl)
+  begun-bit x y = ap (λ (f : ℕ → ℕ → Bool). f x y) (slot-bits blank 0 settingsSize (startWords s)) ∙ by-table (λ t. false ≡ t) (opened s .bits) x y (λ _. refl) (λ _ _. refl) (λ _ _. refl)
 
   begun-same : SameContents begun (contentsOf (opened s))
   unfolding contentsOf opened
   begun-same = record { words = λ k l. begun-word k; bits = λ x y hx hy. begun-bit x y }
 
-  pub started : (m : List ℕ) → Whole m → {d e : List ℕ} → d ≡ cleared m → e ≡ slotSet d 0 3 (settingsWords s) → Fit e → e ≡ image (opened s)
+  pub started : (m : List ℕ) → Whole m → {d e : List ℕ} → d ≡ cleared m → e ≡ slotSet d 0 settingsSize (startWords s) → Fit e → e ≡ image (opened s)
   started m whole {d} {e} v q fit =
       let h : Holds d blank = holds-by (holds-cleared m whole) v in
-      written (opened s) e (holds-by (holds-as (holds-slot h 0 3 (settingsWords s) (omega arith) (omega arith)) (contentsOf (opened s)) begun-same) q) fit
+      image-written (opened s) e (holds-by (holds-as (holds-slot h 0 settingsSize (startWords s) (omega arith) (omega arith)) (contentsOf (opened s)) begun-same) q) fit

@@ -1,29 +1,28 @@
--- The entries of a well-formed memory: bounds for the code that reads them, and what it reads. Assumes nothing.
+-- The entries of a well-formed memory: bounds for the code that reads them, and what it reads.
 use mathlib.Core.Path.{_≡_, sym, ap, _∙_, subst}
 use mathlib.Core.Bool.{true, not, _&&_}
 use mathlib.Core.List.{List}
 use Prim.Native.Nat.{ℕ, suc, _+_, _*_, _-_, _<_}
 use native.Mathlib.Decide.{ℕ-discrete}
 use native.Mathlib.Omega.{arith}
-use lib.Dec.{eqb, leb}
-use Rattle.block.specs.Entry.{container, policy}
-use Rattle.block.specs.Written.{validLabels, validEntry}
+use lib.Dec.{eqb}
+use Rattle.block.specs.Written.{validLabels}
 use Rattle.model.specs.Table.{on, at, stands}
 use Rattle.model.specs.Rules.{carries}
 use Rattle.model.specs.Model.{containerSlots, policySlots}
 use Rattle.model.specs.Findings.{sameUser, isSystem}
-use Rattle.store.specs.Layout.{wordAt, containerStart, policyStart}
+use Rattle.store.specs.Layout.{selectOffset, allowOffset, containerStart, policyStart, wordAt}
 use Rattle.formed.specs.Words.{containerWord, policyWord, labelIn, partIn, policyAt, settingsIn}
-use Rattle.formed.specs.Registry.{modelIn, registryIn, freeOr, wellFormed}
+use Rattle.formed.specs.Registry.{modelIn, registryIn, validContainer, validPolicy, wellFormed}
 use Rattle.formed.proofs.Parts.{labels-some, labels-in-range}
 use Rattle.formed.proofs.Slots.{valid-container, PolicyParts, valid-policy}
 use Rattle.formed.proofs.Formed.{formed-memory}
 use Rattle.formed.proofs.Reading.{container-free, container-taken, policy-slot, policy-free, policy-taken, formed-whole, formed-container, formed-policy, formed-head, formed-parts, formed-settings}
 use Rattle.formed.proofs.EntryTests.{past-word}
-use Rattle.entries.specs.Entries.{PartOfLabels, ZeroPast, SlotsFormed}
+use Rattle.entries.specs.Entries.{PartOfLabels, ZeroPast, SlotsFormed, userWord}
 use Rattle.entries.proofs.PartLabels.{label-of}
 use Rattle.entries.proofs.Trials.{select-within, allow-within, container-at}
-use Rattle.entries.proofs.Keys.{userWord, carries-word, same-user}
+use Rattle.entries.proofs.Keys.{same-user}
 
 module _ (m : List ℕ) (ok : wellFormed m ≡ true) where
   formed-past : (c : ℕ) → c < containerSlots → ZeroPast m (containerStart c)
@@ -52,7 +51,7 @@ module _ (m : List ℕ) (ok : wellFormed m ≡ true) where
     unfolding registryIn
     valid-parts n =
         valid-policy (modelIn m .settings) (policyAt m q)
-        (subst (λ o. freeOr (λ x. validEntry (modelIn m .settings) (policy x)) o ≡ true) (policy-slot m q h ∙ policy-taken m q n) (formed-memory m ok .acceptable .policy q))
+        (subst (λ o. validPolicy (modelIn m .settings) o ≡ true) (policy-slot m q h ∙ policy-taken m q n) (formed-memory m ok .acceptable .policy q))
 
     labelled : (p : ℕ) → (head ≡ 0 → wordAt m p ≡ 0) → ((head ≡ 0 → ⊥) → validLabels 4 (partIn m p) ≡ true) → (k : ℕ) → p < k → k < p + wordAt m p → 0 < wordAt m k
     unfolding partIn
@@ -62,18 +61,18 @@ module _ (m : List ℕ) (ok : wellFormed m ≡ true) where
         go (yes e) = absurd (omega (arith, free e))
         go (no n) = labels-some m (wordAt m p - 1) (p + 1) (labels-in-range 4 _ (valid n)) k (omega arith) (omega arith)
 
-    pub formed-select : PartOfLabels m (policyStart q + 1)
+    pub formed-select : PartOfLabels m (policyStart q + selectOffset)
     unfolding policyAt
     formed-select = record {
       within = select-within m (formed-whole m ok) formed-slots q h;
-      label = labelled (policyStart q + 1) (λ e. formed-policy m ok q h 1 (omega arith) ∙ ap (λ o. policyWord o 1) (policy-free m q e)) (λ n. valid-parts n .select);
+      label = labelled (policyStart q + selectOffset) (λ e. formed-policy m ok q h selectOffset (omega arith) ∙ ap (λ o. policyWord o selectOffset) (policy-free m q e)) (λ n. valid-parts n .select);
     }
 
-    pub formed-allow : PartOfLabels m (policyStart q + 6)
+    pub formed-allow : PartOfLabels m (policyStart q + allowOffset)
     unfolding policyAt
     formed-allow = record {
       within = allow-within m (formed-whole m ok) formed-slots q h;
-      label = labelled (policyStart q + 6) (λ e. formed-policy m ok q h 6 (omega arith) ∙ ap (λ o. policyWord o 6) (policy-free m q e)) (λ n. valid-parts n .allow);
+      label = labelled (policyStart q + allowOffset) (λ e. formed-policy m ok q h allowOffset (omega arith) ∙ ap (λ o. policyWord o allowOffset) (policy-free m q e)) (λ n. valid-parts n .allow);
     }
 
   module _ (c : ℕ) (s : stands (modelIn m .containers) c ≡ true) where
@@ -81,15 +80,7 @@ module _ (m : List ℕ) (ok : wellFormed m ≡ true) where
     unfolding registryIn
     formed-labels =
         valid-container (modelIn m .settings) (partIn m (containerStart c))
-        (subst (λ o. freeOr (λ x. validEntry (modelIn m .settings) (container x)) o ≡ true) (container-at m c s) (formed-memory m ok .acceptable .container c))
-
-    -- whether c carries a value, any number at all, under the user key
-    pub formed-user : (v : ℕ) → on (λ x. carries x (record { key = modelIn m .settings .userKey; value = v })) (at (modelIn m .containers) c)
-        ≡ (leb v 65535 && (not (eqb v 0) && eqb (userWord m c) (wordAt m 0 * 65536 + v)))
-    unfolding modelIn settingsIn
-    formed-user v =
-        ap (on (λ x. carries x (record { key = wordAt m 0; value = v }))) (container-at m c s)
-        ∙ carries-word 8 (partIn m (containerStart c)) formed-labels (wordAt m 0) v
+        (subst (λ o. validContainer (modelIn m .settings) o ≡ true) (container-at m c s) (formed-memory m ok .acceptable .container c))
 
     -- whether c carries the system label
     pub formed-system : isSystem (modelIn m) c ≡ (not (eqb (wordAt m 1) 0) && carries (partIn m (containerStart c)) (labelIn (wordAt m 1 * 65536 + wordAt m 2)))

@@ -1,4 +1,4 @@
--- The search for the lowest free slot. Assumes nothing.
+-- The search for the lowest free slot.
 use mathlib.Core.Path.{_≡_, refl, sym, ap, _∙_}
 use mathlib.Core.Bool.{Bool, true, false, cond}
 use mathlib.Core.List.{List, _∷_}

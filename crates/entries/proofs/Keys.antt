@@ -1,4 +1,4 @@
--- The label under a key, of labels whose keys rise. Assumes nothing.
+-- The label under a key, of labels whose keys rise.
 use mathlib.Core.Path.{_≡_, refl, sym, ap, ap₂, _∙_}
 use mathlib.Core.Bool.{Bool, true, false, not, _&&_, _||_, cond, or-false, and-false}
 use mathlib.Core.List.{List, [], _∷_}
@@ -19,7 +19,7 @@ use Rattle.formed.specs.Words.{labelWord, partIn, settingsIn}
 use Rattle.formed.specs.Registry.{modelIn}
 use Rattle.formed.proofs.Tests.{both}
 use Rattle.formed.proofs.Parts.{LabelBounds, label-bounds}
-use Rattle.entries.specs.Entries.{wordUnder}
+use Rattle.entries.specs.Entries.{wordUnder, userWord}
 use Rattle.entries.proofs.Trials.{container-at}
 
 -- ---- rising keys
@@ -152,10 +152,6 @@ carries-word limit ls w k v = carries-fine k v ls (fine-of limit ls w)
 pub shared-word : (n o : ℕ) (x y : List Label) → validLabels n x ≡ true → validLabels o y ≡ true → (k : ℕ)
     → any (λ l. eqb (l .key) k && carries y l) x ≡ (not (eqb (wordUnder k x) 0) && eqb (wordUnder k x) (wordUnder k y))
 shared-word n o x y v w k = shared-fine k y (fine-of o y w) x (fine-of n x v)
-
--- the word under the user key of the container at slot c
-abbrev pub userWord : List ℕ → ℕ → ℕ
-userWord m c = wordUnder (wordAt m 0) (partIn m (containerStart c))
 
 -- both carry the user key with one value
 pub same-user : (m : List ℕ) (a b : ℕ) → stands (modelIn m .containers) a ≡ true → stands (modelIn m .containers) b ≡ true

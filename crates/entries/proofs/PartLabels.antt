@@ -1,4 +1,4 @@
--- A label as one word, and the labels of a part read one after another. Assumes nothing.
+-- A label as one word, and the labels of a part read one after another.
 use mathlib.Core.Path.{_≡_, refl, sym, ap, ap₂, _∙_}
 use mathlib.Core.Bool.{Bool, true, false, _&&_, _||_, cond, or-assoc, or-false}
 use mathlib.Core.List.{List, [], _∷_}

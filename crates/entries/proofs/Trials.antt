@@ -1,6 +1,6 @@
--- The trial of a part, and the rows that it gives. Assumes nothing.
+-- The trial of a part, and the rows that it gives.
 use mathlib.Core.Path.{_≡_, refl, sym, ap, ap₂, _∙_, fun-ext, subst}
-use mathlib.Core.Bool.{Bool, true, false, _&&_, cond, and-true}
+use mathlib.Core.Bool.{Bool, true, false, _&&_, cond}
 use mathlib.Core.List.{List, [], _∷_}
 use mathlib.Core.Option.{Option, none, some}
 use Prim.Native.Nat.{ℕ, _+_, _*_, _-_, _%_, _^_, _<_, _≤_}
@@ -19,11 +19,11 @@ use Rattle.bitrow.proofs.Sets.{meet-at, under-in, under-out, meet-next, meet-un
 use Rattle.model.specs.Table.{on, at, stands}
 use Rattle.model.specs.Rules.{matches, selects, allows}
 use Rattle.model.specs.Model.{containerSlots, policySlots, selectedBit, allowedBit}
-use Rattle.store.specs.Layout.{Whole, wordAt, containerStart, policyStart}
+use Rattle.store.specs.Layout.{containersStart, containerWords, selectOffset, allowOffset, Whole, wordAt, containerStart, policyStart}
 use Rattle.store.specs.Contents.{tab}
 use Rattle.store.proofs.Cases.{by-eqb}
 use Rattle.store.proofs.Image.{getD-tab, tab-beyond}
-use Rattle.formed.specs.Words.{labelsIn, partIn, containerIn, policyAt, policyIn}
+use Rattle.formed.specs.Words.{partIn, containerIn, policyAt, policyIn}
 use Rattle.formed.specs.Registry.{modelIn}
 use Rattle.formed.proofs.Tests.{clash}
 use Rattle.formed.proofs.Standing.{meet-in, word-zero, words-row}
@@ -35,10 +35,10 @@ module _ (m : List ℕ) (w : Whole m) (b : SlotsFormed m) where
   pub container-within : (c : ℕ) → c < 256 → PartWithin m (containerStart c)
   container-within c h = record { header = omega (arith, w); labels = omega (arith, w, b .container c h) }
 
-  pub select-within : (q : ℕ) → q < 128 → PartWithin m (policyStart q + 1)
+  pub select-within : (q : ℕ) → q < 128 → PartWithin m (policyStart q + selectOffset)
   select-within q h = record { header = omega (arith, w); labels = omega (arith, w, b .select q h) }
 
-  pub allow-within : (q : ℕ) → q < 128 → PartWithin m (policyStart q + 6)
+  pub allow-within : (q : ℕ) → q < 128 → PartWithin m (policyStart q + allowOffset)
   allow-within q h = record { header = omega (arith, w); labels = omega (arith, w, b .allow q h) }
 
   slot-at : (c : ℕ) → c < 256 → SlotAt m (containerStart c)
@@ -47,7 +47,7 @@ module _ (m : List ℕ) (w : Whole m) (b : SlotsFormed m) where
   -- 64 container slots, of which slot j is the first
   pub slots-from : (j : ℕ) → j + 64 ≤ 256 → SlotsFrom m (containerStart j)
   slots-from j h = record {
-    slot = λ i l. let e : containerStart (j + i) ≡ containerStart j + 9 * i = omega arith in subst (SlotAt m) e (slot-at (j + i) (omega arith));
+    slot = λ i l. let e : containerStart (j + i) ≡ containerStart j + containerWords * i = omega arith in subst (SlotAt m) e (slot-at (j + i) (omega arith));
   }
 
 -- ---- four words, each the trial over 64 containers
@@ -57,15 +57,15 @@ module _ (m : List ℕ) (part : ℕ) (cs : List ℕ) where
       → (i : ℕ) → i < 64 → bit w i ≡ trialSet m part (bitAt cs) (k * 64 + i)
   unfolding matching matchingFrom
   trial-bit k w e i h =
-      let p : containerStart (k * 64) + 9 * i ≡ containerStart (k * 64 + i) = omega arith in
+      let p : containerStart (k * 64) + containerWords * i ≡ containerStart (k * 64 + i) = omega arith in
       point e i ∙ meet-in _ 64 i h ∙ meet-at (bit (getD cs k 0)) _ i
       ∙ ap₂ _&&_ (sym (word-bit cs k i h)) (ap (λ x. matches (partIn m part) (partIn m x)) p) ∙ sym (meet-at (bitAt cs) _ (k * 64 + i))
 
   pub trial-row : Bounded 256 (bitAt cs) → (a b c d : ℕ)
-      → bit a ≡ meet (meet (bit (getD cs 0 0)) (matchingFrom m part 3)) (under 64)
-      → bit b ≡ meet (meet (bit (getD cs 1 0)) (matchingFrom m part 579)) (under 64)
-      → bit c ≡ meet (meet (bit (getD cs 2 0)) (matchingFrom m part 1155)) (under 64)
-      → bit d ≡ meet (meet (bit (getD cs 3 0)) (matchingFrom m part 1731)) (under 64)
+      → bit a ≡ meet (meet (bit (getD cs 0 0)) (matchingFrom m part containersStart)) (under 64)
+      → bit b ≡ meet (meet (bit (getD cs 1 0)) (matchingFrom m part (containerStart 64))) (under 64)
+      → bit c ≡ meet (meet (bit (getD cs 2 0)) (matchingFrom m part (containerStart 128))) (under 64)
+      → bit d ≡ meet (meet (bit (getD cs 3 0)) (matchingFrom m part (containerStart 192))) (under 64)
       → bitAt (a ∷ b ∷ c ∷ d ∷ []) ≡ trialSet m part (bitAt cs)
   trial-row q a b c d e f g h =
       words-row (trialSet m part (bitAt cs)) a b c d (bounded-meet-left q (matching m part)) (trial-bit 0 a e) (trial-bit 1 b f) (trial-bit 2 c g) (trial-bit 3 d h)
@@ -200,13 +200,6 @@ module _ (m : List ℕ) where
 
   -- ---- the trial of a part
 
-  -- a part with no labels matches every candidate
-  pub trial-all : (part : ℕ) (s : ℕ → Bool) → wordAt m part ≤ 1 → trialSet m part s ≡ s
-  unfolding matching matchingFrom matches partIn
-  trial-all part s h =
-      let e : wordAt m part - 1 ≡ 0 = omega arith in
-      fun-ext λ c. meet-at s (matching m part) c ∙ ap (λ n. s c && matches (labelsIn m (part + 1) n) (partIn m (containerStart c))) e ∙ and-true (s c)
-
   -- over the standing containers
   trial-standing : (part c : ℕ) → trialSet m part (stands (modelIn m .containers)) c ≡ on (matches (partIn m part)) (at (modelIn m .containers) c)
   unfolding matching matchingFrom
@@ -214,15 +207,15 @@ module _ (m : List ℕ) where
 
   module _ (q : ℕ) (h : stands (modelIn m .policies) q ≡ true) where
     -- the trial of a policy's select part over the standing containers is the row of those it selects
-    pub select-row : trialSet m (policyStart q + 1) (stands (modelIn m .containers)) ≡ selectedBit (modelIn m) q
+    pub select-row : trialSet m (policyStart q + selectOffset) (stands (modelIn m .containers)) ≡ selectedBit (modelIn m) q
     unfolding selectedBit selects policyAt
     select-row =
-        fun-ext λ c. trial-standing (policyStart q + 1) c
+        fun-ext λ c. trial-standing (policyStart q + selectOffset) c
         ∙ sym (ap (on (λ p. on (λ x. selects p x) (at (modelIn m .containers) c))) (policy-at q h))
 
     -- and that of its allow part the row of those it allows
-    pub allow-row : trialSet m (policyStart q + 6) (stands (modelIn m .containers)) ≡ allowedBit (modelIn m) q
+    pub allow-row : trialSet m (policyStart q + allowOffset) (stands (modelIn m .containers)) ≡ allowedBit (modelIn m) q
     unfolding allowedBit allows policyAt
     allow-row =
-        fun-ext λ c. trial-standing (policyStart q + 6) c
+        fun-ext λ c. trial-standing (policyStart q + allowOffset) c
         ∙ sym (ap (on (λ p. on (λ x. allows p x) (at (modelIn m .containers) c))) (policy-at q h))

@@ -1,4 +1,4 @@
--- What the readers of entries give. Assumes nothing.
+-- What the readers of entries give.
 use mathlib.Core.Path.{_≡_}
 use mathlib.Core.Bool.{Bool, cond}
 use mathlib.Core.List.{List, [], _∷_}
@@ -10,7 +10,7 @@ use Rattle.block.specs.Entry.{Label}
 use Rattle.bitrow.specs.Set.{meet}
 use Rattle.model.specs.Model.{containerSlots, policySlots}
 use Rattle.model.specs.Rules.{matches}
-use Rattle.store.specs.Layout.{wordAt, containersStart, containerStart, containerWords, policyStart}
+use Rattle.store.specs.Layout.{wordAt, containersStart, containerWords, selectOffset, allowOffset, containerStart, policyStart}
 use Rattle.formed.specs.Words.{labelWord, partIn}
 use Rattle.entries.specs.declared.FreeContainer.{FreeContainer}
 use Rattle.entries.specs.declared.FreeContainer.the-variants as container
@@ -39,18 +39,18 @@ pub record SlotAt (m : List ℕ) (at : ℕ) : Type 0 where
 
 -- no part of a slot says more labels than its limit, and a container's slot is zero past them: so it is in a memory that is well formed
 pub record SlotsFormed (m : List ℕ) : Type 0 where
-  pub container : (c : ℕ) → c < containerSlots → wordAt m (containerStart c) ≤ 9
-  pub select : (q : ℕ) → q < policySlots → wordAt m (policyStart q + 1) ≤ 5
-  pub allow : (q : ℕ) → q < policySlots → wordAt m (policyStart q + 6) ≤ 5
+  pub container : (c : ℕ) → c < containerSlots → wordAt m (containerStart c) ≤ containerWords
+  pub select : (q : ℕ) → q < policySlots → wordAt m (policyStart q + selectOffset) ≤ 5
+  pub allow : (q : ℕ) → q < policySlots → wordAt m (policyStart q + allowOffset) ≤ 5
   pub past : (c : ℕ) → c < containerSlots → ZeroPast m (containerStart c)
 
 -- 64 container slots, one after another from `at` on
 pub record SlotsFrom (m : List ℕ) (at : ℕ) : Type 0 where
-  pub slot : (i : ℕ) → i < 64 → SlotAt m (at + 9 * i)
+  pub slot : (i : ℕ) → i < 64 → SlotAt m (at + containerWords * i)
 
--- those of slots nine words apart, from `at` on, that carry every label of the part whose header is at `part`
+-- those of container slots, one after another from `at` on, that carry every label of the part whose header is at `part`
 unfoldable pub matchingFrom : List ℕ → ℕ → ℕ → ℕ → Bool
-matchingFrom m part at i = matches (partIn m part) (partIn m (at + 9 * i))
+matchingFrom m part at i = matches (partIn m part) (partIn m (at + containerWords * i))
 
 -- the container slots that carry them
 unfoldable pub matching : List ℕ → ℕ → ℕ → Bool
@@ -64,6 +64,10 @@ trialSet m part candidates = meet candidates (matching m part)
 unfoldable pub wordUnder : ℕ → List Label → ℕ
 wordUnder k [] = 0
 wordUnder k (l ∷ ls) = cond (eqb (l .key) k) (labelWord l) (wordUnder k ls)
+
+-- the word under the user key of the container at slot c
+abbrev pub userWord : List ℕ → ℕ → ℕ
+userWord m c = wordUnder (wordAt m 0) (partIn m (containerStart c))
 
 -- ---- free slots
 

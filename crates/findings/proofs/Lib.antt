@@ -1,14 +1,9 @@
 -- Laws of `findings`.
 pub mod Walk
-pub mod Standing
-pub mod Words
-pub mod Passed
-pub mod KindRows
-pub mod ContainerRows
-pub mod PolicyRows
-pub mod Inside
-pub mod Members
-pub mod Putting
-pub mod Walked
-pub mod Listed
+mod Inside
+mod LoopTests
+mod Members
+mod Putting
+pub mod NextFinding
+mod PutSoFar
 pub mod Whole

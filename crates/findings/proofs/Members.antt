@@ -1,4 +1,4 @@
--- The numbers of a set as a rising list. Assumes nothing.
+-- The numbers of a set as a rising list.
 use mathlib.Core.Path.{_≡_, refl, sym, ap, ap₂, _∙_}
 use mathlib.Core.Bool.{Bool, true, false, _&&_, cond, and-true, and-false}
 use mathlib.Core.List.{List, [], _∷_, _++_, map}
@@ -93,12 +93,12 @@ module _ (s : ℕ → Bool) (f n : ℕ) where
 
 -- ---- the bits of a word
 
-pub word-none : members (bit 0) 0 64 ≡ []
-word-none = members-none (bit 0) 64 0 (λ j h l. bit-zero j)
+pub bits-none : members (bit 0) 0 64 ≡ []
+bits-none = members-none (bit 0) 64 0 (λ j h l. bit-zero j)
 
 -- the lowest bit, and then those of the word without it
-pub word-next : (w r : ℕ) → w < 2 ^ 64 → 0 < w → bit r ≡ remove (trailingZeros 64 w) (bit w) → members (bit w) 0 64 ≡ trailingZeros 64 w ∷ members (bit r) 0 64
-word-next w r h p e =
+pub bits-next : (w r : ℕ) → w < 2 ^ 64 → 0 < w → bit r ≡ remove (trailingZeros 64 w) (bit w) → members (bit w) 0 64 ≡ trailingZeros 64 w ∷ members (bit r) 0 64
+bits-next w r h p e =
     members-lowest (bit w) 64 0 (trailingZeros 64 w) (trailing 64 w h p) ∙ ap (λ t. trailingZeros 64 w ∷ members t 0 64) (sym e)
 
 -- ---- the bits of a row

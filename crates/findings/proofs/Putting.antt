@@ -1,4 +1,4 @@
--- A list put into a buffer piece after piece, as much of it as the buffer holds. Assumes nothing.
+-- A list put into a buffer piece after piece, as much of it as the buffer holds.
 use mathlib.Core.Path.{_≡_, refl, sym, ap, _∙_, subst, fun-ext}
 use mathlib.Core.List.{List, [], _∷_, _++_, map, append-assoc, append-nil, map-append, map-map}
 use Prim.Native.Nat.{ℕ, zero, suc, _+_, _-_, _*_, _^_, _≤_, _<_}
@@ -14,7 +14,7 @@ use Rattle.buffer.specs.Buffer.{Puts}
 use Rattle.buffer.proofs.BufferLaws.{puts-none, puts-next, puts-size, puts-as, puts-then}
 use Rattle.model.specs.Findings.{finding, findingCode}
 use Rattle.findings.specs.Listing.{members, rowFindings}
-use Rattle.findings.proofs.Members.{word-none, word-next, row-next}
+use Rattle.findings.proofs.Members.{bits-none, bits-next, row-next}
 
 take-then : {A : Type 0} (n : ℕ) (u v : List A) → take n (u ++ v) ≡ take n u ++ take (n - length (take n u)) v
 take-then zero u v = refl
@@ -27,12 +27,12 @@ pub record Putting (d : List ℕ) (from : ℕ) (w e : List ℕ) (at : ℕ) (rest
   pub puts : Puts d from text e at
   pub left : take (length d - from) w ≡ text ++ take (length d - at) rest
 
-pub putting-none : {d : List ℕ} {from : ℕ} (w : List ℕ) → from ≤ length d → Putting d from w d from w
+putting-none : {d : List ℕ} {from : ℕ} (w : List ℕ) → from ≤ length d → Putting d from w d from w
 putting-none w h = record { text = []; puts = puts-none h; left = refl }
 
 module _ {d w e : List ℕ} {from at : ℕ} where
   -- the next piece, as much of it as there is room for
-  pub putting-then : (u rest : List ℕ) → Putting d from w e at (u ++ rest) → {f : List ℕ} {stop : ℕ} → Puts e at (take (length e - at) u) f stop → Putting d from w f stop rest
+  putting-then : (u rest : List ℕ) → Putting d from w e at (u ++ rest) → {f : List ℕ} {stop : ℕ} → Puts e at (take (length e - at) u) f stop → Putting d from w f stop rest
   putting-then u rest g {f} {stop} p =
       let size = puts-size (g .puts) in
       let t = take (length d - at) u in
@@ -45,16 +45,16 @@ module _ {d w e : List ℕ} {from at : ℕ} where
       }
 
   -- one more
-  pub putting-next : (x : ℕ) (rest : List ℕ) → Putting d from w e at (x ∷ rest) → at < length e → Putting d from w (set e at x) (at + 1) rest
+  putting-next : (x : ℕ) (rest : List ℕ) → Putting d from w e at (x ∷ rest) → at < length e → Putting d from w (set e at x) (at + 1) rest
   putting-next x rest g h =
       let one : length e - at ≡ suc (length e - at - 1) = omega arith in
       putting-then (x ∷ []) rest g (puts-as (puts-next (puts-none (omega arith)) x h) (sym (ap (λ n. take n (x ∷ [])) one ∙ ap (λ l. x ∷ l) (take-nil (length e - at - 1)))))
 
   -- nothing is left, or the buffer is full
-  pub putting-all : {rest : List ℕ} → Putting d from w e at rest → rest ≡ [] → Puts d from (take (length d - from) w) e at
+  putting-all : {rest : List ℕ} → Putting d from w e at rest → rest ≡ [] → Puts d from (take (length d - from) w) e at
   putting-all g q = puts-as (g .puts) (sym (g .left ∙ ap (λ l. g .text ++ take (length d - at) l) q ∙ ap (λ l. g .text ++ l) (take-nil (length d - at)) ∙ append-nil (g .text)))
 
-  pub putting-full : {rest : List ℕ} → Putting d from w e at rest → length e ≤ at → Puts d from (take (length d - from) w) e at
+  putting-full : {rest : List ℕ} → Putting d from w e at rest → length e ≤ at → Puts d from (take (length d - from) w) e at
   putting-full {rest} g h =
       let z : length d - at ≡ 0 = omega (arith, puts-size (g .puts)) in
       puts-as (g .puts) (sym (g .left ∙ ap (λ n. g .text ++ take n rest) z ∙ append-nil (g .text)))
@@ -71,14 +71,14 @@ module _ {d : List ℕ} {from base word : ℕ} where
   word-start s h = record { small = s; putting = putting-none _ h }
 
   module _ {e : List ℕ} {at rest : ℕ} (p : PuttingWord d from base word e at rest) where
-    pub word-size : length e ≡ length d
-    word-size = puts-size (p .putting .puts)
+    pub word-length : length e ≡ length d
+    word-length = puts-size (p .putting .puts)
 
     -- the lowest
     pub word-put : {r : ℕ} → 0 < rest → at < length e → (bit r ≡ remove (trailingZeros 64 rest) (bit rest)) × (r < rest) → PuttingWord d from base word (set e at (base + trailingZeros 64 rest)) (at + 1) r
     word-put {r} h l f = record {
       small = omega (arith, p .small, f .1);
-      putting = putting-next (base + trailingZeros 64 rest) _ (subst (Putting d from _ e at) (ap (map (λ i. base + i)) (word-next rest r (p .small) h (f .0))) (p .putting)) l;
+      putting = putting-next (base + trailingZeros 64 rest) _ (subst (Putting d from _ e at) (ap (map (λ i. base + i)) (bits-next rest r (p .small) h (f .0))) (p .putting)) l;
     }
 
     -- nothing is left, or the buffer is full
@@ -87,7 +87,7 @@ module _ {d : List ℕ} {from base word : ℕ} where
       where
         go : Dec (0 < rest) → Puts d from (take (length d - from) (map (λ i. base + i) (members (bit word) 0 64))) e at
         go (yes h) = putting-full (p .putting) (full h)
-        go (no n) = let z : rest ≡ 0 = omega arith in putting-all (p .putting) (ap (λ w. map (λ i. base + i) (members (bit w) 0 64)) z ∙ ap (map (λ i. base + i)) word-none)
+        go (no n) = let z : rest ≡ 0 = omega arith in putting-all (p .putting) (ap (λ w. map (λ i. base + i) (members (bit w) 0 64)) z ∙ ap (map (λ i. base + i)) bits-none)
 
 -- ---- the findings of a row
 

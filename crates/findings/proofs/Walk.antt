@@ -1,4 +1,4 @@
--- The walk, whatever the kinds are: the order of three numbers as the order of one. Assumes nothing.
+-- The walk, whatever the kinds are: the order of three numbers as the order of one.
 use mathlib.Core.Path.{_≡_}
 use mathlib.Core.Bool.{Bool, true, false, _&&_, _||_}
 use Prim.Native.Nat.{ℕ, suc, _+_, _≤_, _<_}
@@ -20,12 +20,12 @@ abbrev pub rankOf : Place → ℕ
 rankOf p = rank (p .kind) (p .a) (p .b)
 
 -- three numbers that a cursor can hold
-pub record Sized (c : Place) : Type 0 where
+pub record SmallPlace (c : Place) : Type 0 where
   pub smallKind : c .kind < 65536
   pub smallA : c .a < 65536
   pub smallB : c .b < 65536
 
-module _ (c : Place) (g : Finding) (s : Sized c) (t : Sized (placeOf g)) where
+module _ (c : Place) (g : Finding) (s : SmallPlace c) (t : SmallPlace (placeOf g)) where
   after-lt : rankOf c < findingCode g → after c g ≡ true
   unfolding after findingCode
   after-lt h = go (decLt (c .kind) (g .kind)) (decLt (c .a) (g .a))
@@ -69,8 +69,8 @@ pub record Inside (k a b : ℕ) : Type 0 where
   pub inA : a < 256
   pub inB : b < 256
 
-abbrev pub Bounded : (ℕ → ℕ → ℕ → Bool) → Type 0
-Bounded T = (k a b : ℕ) → T k a b ≡ true → Inside k a b
+abbrev pub AllInside : (ℕ → ℕ → ℕ → Bool) → Type 0
+AllInside T = (k a b : ℕ) → T k a b ≡ true → Inside k a b
 
 abbrev pub thereIn : (ℕ → ℕ → ℕ → Bool) → Finding → Bool
 thereIn T g = T (g .kind) (g .a) (g .b)
@@ -83,14 +83,14 @@ pub record Come (T : ℕ → ℕ → ℕ → Bool) (p : Place) (k a from : ℕ) 
   pub past : rankOf p < rank k a from
   pub left : (x y z : ℕ) → T x y z ≡ true → rankOf p < rank x y z → rank k a from ≤ rank x y z
 
-module _ (T : ℕ → ℕ → ℕ → Bool) (B : Bounded T) where
-  pub sized-there : (g : Finding) → thereIn T g ≡ true → Sized (placeOf g)
+module _ (T : ℕ → ℕ → ℕ → Bool) (B : AllInside T) where
+  pub sized-there : (g : Finding) → thereIn T g ≡ true → SmallPlace (placeOf g)
   sized-there g e =
       let i = B (g .kind) (g .a) (g .b) e in
       record { smallKind = omega (arith, i .high); smallA = omega (arith, i .inA); smallB = omega (arith, i .inB) }
 
-module _ (T : ℕ → ℕ → ℕ → Bool) (B : Bounded T) (p : Place) (s : Sized p) where
-  sized : (g : Finding) → thereIn T g ≡ true → Sized (placeOf g)
+module _ (T : ℕ → ℕ → ℕ → Bool) (B : AllInside T) (p : Place) (s : SmallPlace p) where
+  sized : (g : Finding) → thereIn T g ≡ true → SmallPlace (placeOf g)
   sized = sized-there T B
 
   pub come-start : Come T p (p .kind) (p .a) (p .b + 1)

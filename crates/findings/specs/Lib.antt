@@ -1,4 +1,3 @@
 -- What the contracts of `findings` cite.
 pub mod Steps
-pub mod Rows
 pub mod Listing

@@ -1,4 +1,4 @@
--- The answer to a cursor: the next finding and the cursor moved to it, or none; and a walk. Assumes nothing.
+-- The answer to a cursor: the next finding and the cursor moved to it, or none; and a walk.
 use mathlib.Core.List.{List, [], _∷_}
 use mathlib.Core.Option.{Option, none, some}
 use Prim.Native.Nat.{ℕ, zero, suc}
@@ -12,21 +12,21 @@ use Rattle.findings.specs.declared.Step.the-variants.{Found, Done}
 abbrev pub Place : Type 0
 Place = model.Cursor
 
-abbrev pub place : ℕ → ℕ → ℕ → Place
-place k a b = record { kind = k; a = a; b = b }
+abbrev pub placeFrom : ℕ → ℕ → ℕ → Place
+placeFrom k a b = record { kind = k; a = a; b = b }
 
 -- the place that a cursor stands at
-abbrev pub placeOf : Cursor → Place
-placeOf c = place (c .kind) (c .a) (c .b)
+abbrev pub cursorPlace : Cursor → Place
+cursorPlace c = placeFrom (c .kind) (c .a) (c .b)
 
 -- the cursor at a finding
 abbrev pub movedTo : Finding → Cursor
 movedTo g = record { kind = g .kind; a = g .a; b = g .b }
 
 -- "gives the first finding after them in the order, or says there is none": the finding is the place to go on from
-abbrev pub stepOf : Option Finding → Step
-stepOf none = Done
-stepOf (some g) = Found g (movedTo g)
+abbrev pub nextStep : Option Finding → Step
+nextStep none = Done
+nextStep (some g) = Found g (movedTo g)
 
 -- "A walk calls next finding from 0 0 0, then from each finding given, until there is none." At most n calls from a cursor.
 abbrev pub follow : (Cursor → Step) → ℕ → Cursor → List Finding
@@ -34,5 +34,5 @@ follow step zero c = []
 follow step (suc n) c = elim (step c) [ Found g d ↦ g ∷ follow step n d | Done ↦ [] ]
 
 -- "The start is 0 0 0."
-abbrev pub first : Cursor
-first = record { kind = 0; a = 0; b = 0 }
+abbrev pub startCursor : Cursor
+startCursor = record { kind = 0; a = 0; b = 0 }

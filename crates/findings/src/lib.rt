@@ -8,14 +8,12 @@ ghost use Rattle.bitrow.specs.Bit.{bitAt};
 ghost use Rattle.buffer.specs.Buffer.{Puts};
 ghost use Rattle.model.specs.Findings.{nextAfter, walk, moved, findingCode};
 ghost use Rattle.formed.specs.Registry.{modelIn, bitsIn, wellFormed};
-ghost use Rattle.findings.specs.Steps.{stepOf, placeOf};
-ghost use Rattle.findings.specs.Rows.{shownAt, containersOf, policiesOf};
+ghost use Rattle.findings.specs.Steps.{nextStep, cursorPlace};
+ghost use Rattle.container_findings.specs.Rows.{shownAt, containersStand, policiesStand};
 ghost use Rattle.findings.specs.Listing.{placeAt};
 use model::Finding;
 
-mod containers;
 mod listing;
-mod policies;
 
 // A place in the list of findings: any three numbers.
 pub struct Cursor {
@@ -37,26 +35,26 @@ pub struct Put {
 }
 
 // The findings of one kind at a, as the row of all b.
-fn row_of(
+fn finding_row(
     memory: &[u64],
     containers: [u64; 4],
     policies: [u64; 4],
     kind: usize,
     a: usize,
 ) -> [u64; 4]
-    requires { ⌜ (wellFormed (now memory) ≡ true) × (bitAt containers ≡ containersOf (now memory)) × (bitAt policies ≡ policiesOf (now memory)) × (a < 256) ⌝ }
+    requires { ⌜ (wellFormed (now memory) ≡ true) × (bitAt containers ≡ containersStand (now memory)) × (bitAt policies ≡ policiesStand (now memory)) × (a < 256) ⌝ }
     ensures { λ r. ⌜ bitAt r ≡ shownAt (now (memory .entry)) kind a ⌝ }
 {
     if kind < 5 {
-        return containers::row_of(memory, containers, kind, a);
+        return container_findings::container_row(memory, containers, kind, a);
     }
-    policies::row_of(memory, policies, kind, a)
+    policy_findings::policy_row(memory, policies, kind, a)
 }
 
 // The cursor at the finding whose number this is.
 fn cursor_at(code: u64) -> Cursor
     requires { ⌜ code < 281474976710656 ⌝ }
-    ensures { λ r. ⌜ placeOf r ≡ placeAt code ⌝ }
+    ensures { λ r. ⌜ cursorPlace r ≡ placeAt code ⌝ }
 {
     Cursor {
         kind: (code / 4294967296) as u16,
@@ -69,8 +67,8 @@ impl Cursor {
     // The findings after the cursor's three numbers, whatever they are, as many as the list holds, each as one number.
     pub fn list(self, memory: &[u64], list: &mut [u64]) -> Put
         requires { ⌜ wellFormed (now memory) ≡ true ⌝ }
-        ensures { λ r. ⌜ Puts (now (list .entry)) 0 (map findingCode (walk (nextAfter (modelIn (now (memory .entry))) (bitsIn (now (memory .entry)))) (length (now (list .entry))) (placeOf self))) (now (list .exit)) (r .count) ⌝ }
-        ensures { λ r. ⌜ placeOf (r .cursor) ≡ moved (placeOf self) (walk (nextAfter (modelIn (now (memory .entry))) (bitsIn (now (memory .entry)))) (length (now (list .entry))) (placeOf self)) ⌝ }
+        ensures { λ r. ⌜ Puts (now (list .entry)) 0 (map findingCode (walk (nextAfter (modelIn (now (memory .entry))) (bitsIn (now (memory .entry)))) (length (now (list .entry))) (cursorPlace self))) (now (list .exit)) (r .count) ⌝ }
+        ensures { λ r. ⌜ cursorPlace (r .cursor) ≡ moved (cursorPlace self) (walk (nextAfter (modelIn (now (memory .entry))) (bitsIn (now (memory .entry)))) (length (now (list .entry))) (cursorPlace self)) ⌝ }
     {
         let containers = formed::containers_standing(memory);
         let policies = formed::policies_standing(memory);
@@ -80,7 +78,7 @@ impl Cursor {
         let mut at = 0;
         while (kind < 8) & (at < list.len()) {
             if (0 < kind) & (a < 256) {
-                let row = row_of(memory, containers, policies, kind, a);
+                let row = finding_row(memory, containers, policies, kind, a);
                 at = listing::put_row(list, at, kind, a, bitrow::both(row, bitrow::at_least(from)));
                 a += 1;
                 from = 0;
@@ -105,7 +103,7 @@ impl Cursor {
     // The first finding after the cursor's three numbers, and the cursor moved to it: a listing of one.
     pub fn next(self, memory: &[u64]) -> Step
         requires { ⌜ wellFormed (now memory) ≡ true ⌝ }
-        ensures { λ r. ⌜ r ≡ stepOf (nextAfter (modelIn (now (memory .entry))) (bitsIn (now (memory .entry))) (placeOf self)) ⌝ }
+        ensures { λ r. ⌜ r ≡ nextStep (nextAfter (modelIn (now (memory .entry))) (bitsIn (now (memory .entry))) (cursorPlace self)) ⌝ }
     {
         let mut list = [0u64; 1];
         let put = self.list(memory, &mut list);

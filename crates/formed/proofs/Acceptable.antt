@@ -1,4 +1,4 @@
--- The test `acceptable` and the statement `Acceptable`. Assumes nothing.
+-- The test `acceptable` and the statement `Acceptable`.
 use mathlib.Core.Path.{_≡_, ap, ap₂}
 use mathlib.Core.Bool.{Bool, true, not, _&&_, _||_}
 use mathlib.Core.List.{List}
@@ -16,9 +16,9 @@ use Rattle.store.specs.Layout.{selectedRow, allowedRow, rowBit}
 use Rattle.store.proofs.Cases.{by-ltb}
 use Rattle.store.proofs.Image.{length-tab}
 use Rattle.formed.specs.Words.{containerIn, policyIn}
-use Rattle.formed.specs.Registry.{modelIn, bitWithin, bitsIn, registryIn, freeOr, ofStanding, acceptable, Acceptable}
-use Rattle.formed.proofs.Tests.{both, implies, implied, all-each, each-all, all-below, below-all}
-use Rattle.formed.proofs.Slots.{validContainer, validPolicy}
+use Rattle.formed.specs.Registry.{modelIn, bitWithin, bitsIn, registryIn, freeOr, validContainer, validPolicy, ofStanding, acceptable, Acceptable}
+use Rattle.model.proofs.Consistent.{all-below, below-all}
+use Rattle.formed.proofs.Tests.{both, implies, implied, all-each, each-all}
 
 module _ (m n : ℕ) (s t : ℕ → Bool) (f : ℕ → ℕ → Bool) where
   -- bits that are set are bits of standing slots
@@ -28,7 +28,7 @@ module _ (m n : ℕ) (s t : ℕ → Bool) (f : ℕ → ℕ → Bool) where
   pub test-standing : ofStanding m n s t f ≡ true → (i j : ℕ) → i < m → j < n → f i j ≡ true → (s i && t j) ≡ true
   test-standing e i j l k =
       implies (f i j) (s i && t j)
-      (below-all (λ j. not (f i j) || (s i && t j)) n (below-all (λ i. all (λ j. not (f i j) || (s i && t j)) (below n)) m e i l) j k)
+      (below-all (λ j. not (f i j) || (s i && t j)) n j (below-all (λ i. all (λ j. not (f i j) || (s i && t j)) (below n)) m i e l) k)
 
 -- every slot of a table passes, and so does what lies beyond it
 table-each : {A : Type 0} (f : A → Bool) (t : Table A) → all (freeOr f) t ≡ true → (i : ℕ) → freeOr f (at t i) ≡ true

@@ -1,27 +1,30 @@
--- A memory that holds the contents of an acceptable registry says that registry; so does the registry's image. Assumes nothing.
+-- A memory that holds the contents of an acceptable registry says that registry; so does the registry's image.
 use mathlib.Core.Path.{_≡_, refl, sym, ap, _∙_, fun-ext}
 use mathlib.Core.Bool.{Bool, true, false, _&&_, cond}
 use mathlib.Core.List.{List}
 use mathlib.Core.Option.{none}
-use Prim.Native.Nat.{ℕ, zero, suc, _+_, _*_, _-_, _/_, _%_, _^_, _<_, _≤_}
+use Prim.Native.Nat.{ℕ, zero, suc, _+_, _-_, _/_, _%_, _^_, _<_, _≤_}
 use native.Mathlib.Omega.{arith}
 use lib.Dec.{eqb, ltb, leb}
 use lib.ListN.{length, getD, List·getD-eq-default}
-use borrow.Author.Tests.{lt-ltb, le-ltb, eq-eqb, ne-eqb, leb-true, eqb-true}
+use borrow.Author.Tests.{leb-true, eqb-true}
+use Rattle.bitrow.proofs.Sets.{at as point}
 use Rattle.block.specs.Entry.{Settings}
 use Rattle.block.specs.Reader.{within}
 use Rattle.block.specs.Written.{validSettings}
+use Rattle.block.proofs.Checks.{within-bounds}
 use Rattle.model.specs.Table.{Table, on, at, stands}
 use Rattle.model.specs.Model.{containerSlots, policySlots}
 use Rattle.model.specs.Registry.{Registry}
-use Rattle.store.specs.Layout.{memoryWords, rowsStart, containerStart, policyStart, selectedRow, allowedRow, wordAt, rowBit}
+use Rattle.store.specs.Layout.{settingsSize, containersStart, containerWords, policiesStart, policyWords, memoryWords, rowsStart, rowCount, containerStart, policyStart, selectedRow, allowedRow, wordAt, rowBit}
 use Rattle.store.specs.Contents.{Holds, tab}
 use Rattle.store.proofs.Cases.{by-ltb}
 use Rattle.store.proofs.Image.{is-tab, holds-image, image-holds, image-length}
 use Rattle.store.proofs.Image.{image-fits as image-words-fit}
 use Rattle.formed.specs.Words.{settingsWord, containerWord, policyWord, settingsIn, containerIn, policyIn}
 use Rattle.formed.specs.Registry.{modelIn, bitWithin, bitsIn, registryIn, entryWord, storedBit, contentsOf, image, Acceptable}
-use Rattle.formed.proofs.Tests.{clash, both, within-bounds}
+use Rattle.formed.proofs.Tests.{clash, both}
+use Rattle.formed.proofs.StoredLaws.{word-settings, by-part, slot-container, slot-policy, stored-matrix, stored-selected, stored-allowed}
 use Rattle.formed.proofs.Slots.{Words, container-back, policy-back, container-small, policy-small}
 
 -- ---- a slot that stands lies within its table
@@ -30,17 +33,18 @@ pub stands-below : {A : Type 0} (t : Table A) (i : ℕ) → stands t i ≡ true 
 stands-below t i h =
     by-ltb (λ u. i < length t) i (length t) (λ l. l) (λ g. clash (ap (on (λ x. true)) (sym (List·getD-eq-default t none g)) ∙ h))
 
--- a bit that is read, where bits of no slot are clear
-within-back : (m : List ℕ) (n x r y : ℕ) (f : Bool) → (x < n → y < containerSlots → rowBit m r y ≡ f) → (f ≡ true → (x < n) × (y < containerSlots)) → bitWithin m n x r y ≡ f
+-- a table that is read, where bits of no slot are clear
+table-back : (m : List ℕ) (n : ℕ) (row : ℕ → ℕ) (f : ℕ → ℕ → Bool) → ((x y : ℕ) → x < n → y < containerSlots → rowBit m (row x) y ≡ f x y)
+    → ((x y : ℕ) → f x y ≡ true → (x < n) × (y < containerSlots)) → (λ x y. bitWithin m n x (row x) y) ≡ f
 unfolding bitWithin
-within-back m n x r y f inside small =
-    by-ltb (λ t. (t && (ltb y containerSlots && rowBit m r y)) ≡ f) x n
-    (λ l. by-ltb (λ t. (t && rowBit m r y) ≡ f) y containerSlots (λ k. inside l k) (λ k. out f refl (λ g. let h = small g .1 in omega arith)))
-    (λ l. out f refl (λ g. let h = small g .0 in omega arith))
+table-back m n row f inside small = fun-ext (λ x. fun-ext (λ y.
+    by-ltb (λ t. (t && (ltb y containerSlots && rowBit m (row x) y)) ≡ f x y) x n
+    (λ l. by-ltb (λ t. (t && rowBit m (row x) y) ≡ f x y) y containerSlots (λ k. inside x y l k) (λ k. out (f x y) (λ g. let h = small x y g .1 in omega arith)))
+    (λ l. out (f x y) (λ g. let h = small x y g .0 in omega arith))))
   where
-    out : (t : Bool) → f ≡ t → (f ≡ true → ⊥) → false ≡ f
-    out true e n = absurd (n e)
-    out false e n = sym e
+    out : (t : Bool) → (t ≡ true → ⊥) → false ≡ t
+    out true n = absurd (n refl)
+    out false n = refl
 
 -- ---- where each part of a registry's contents stands
 
@@ -49,45 +53,27 @@ module _ (r : Registry) (m : List ℕ) (h : Holds m (contentsOf r)) where
   unfolding contentsOf
   entry-word k l = h .words k l
 
-  stored-bit : (x y : ℕ) → x < 512 → y < containerSlots → rowBit m x y ≡ storedBit (r .bits) x y
+  stored-bit : (x y : ℕ) → x < rowCount → y < containerSlots → rowBit m x y ≡ storedBit (r .bits) x y
   unfolding contentsOf
   stored-bit x y hx hy = h .bits x y hx hy
 
-  pub settings-words : (k : ℕ) → k < 3 → wordAt m k ≡ settingsWord (r .model .settings) k
-  unfolding entryWord
-  settings-words k l = entry-word k (omega arith) ∙ (rw (lt-ltb k 3 l))
+  pub settings-words : (k : ℕ) → k < settingsSize → wordAt m k ≡ settingsWord (r .model .settings) k
+  settings-words k l = entry-word k (omega arith) ∙ word-settings (r .model) k l
 
-  pub container-words : (c : ℕ) → c < containerSlots → Words m (containerStart c) 9 (containerWord (at (r .model .containers) c))
-  unfolding entryWord
-  container-words c hc k hk =
-      let a : (containerStart c + k - 3) / 9 ≡ c = omega arith in
-      let b : (containerStart c + k - 3) % 9 ≡ k = omega arith in
-      entry-word (containerStart c + k) (omega arith)
-      ∙ (rw (le-ltb (containerStart c + k) 3 (omega arith), lt-ltb (containerStart c + k) 2307 (omega arith), a, b))
+  pub container-words : (c : ℕ) → c < containerSlots → Words m (containerStart c) containerWords (containerWord (at (r .model .containers) c))
+  container-words c hc k hk = entry-word (containerStart c + k) (omega arith) ∙ slot-container (r .model) c k hc hk
 
-  pub policy-words : (q : ℕ) → q < policySlots → Words m (policyStart q) 11 (policyWord (at (r .model .policies) q))
-  unfolding entryWord
-  policy-words q hq k hk =
-      let a : (policyStart q + k - 2307) / 11 ≡ q = omega arith in
-      let b : (policyStart q + k - 2307) % 11 ≡ k = omega arith in
-      entry-word (policyStart q + k) (omega arith)
-      ∙ (rw (le-ltb (policyStart q + k) 3 (omega arith), le-ltb (policyStart q + k) 2307 (omega arith), a, b))
+  pub policy-words : (q : ℕ) → q < policySlots → Words m (policyStart q) policyWords (policyWord (at (r .model .policies) q))
+  policy-words q hq k hk = entry-word (policyStart q + k) (omega arith) ∙ slot-policy (r .model) q k hk
 
   pub matrix-bit : (a b : ℕ) → a < containerSlots → b < containerSlots → rowBit m a b ≡ r .bits .matrix a b
-  unfolding storedBit
-  matrix-bit a b ha hb = stored-bit a b (omega arith) hb ∙ (rw (lt-ltb a 256 ha))
+  matrix-bit a b ha hb = stored-bit a b (omega arith) hb ∙ point (stored-matrix (r .bits) a ha) b
 
   pub selected-bit : (q c : ℕ) → q < policySlots → c < containerSlots → rowBit m (selectedRow q) c ≡ r .bits .selected q c
-  unfolding storedBit
-  selected-bit q c hq hc =
-      let e : (256 + 2 * q - 256) / 2 ≡ q = omega arith in
-      stored-bit (256 + 2 * q) c (omega arith) hc ∙ (rw (le-ltb (256 + 2 * q) 256 (omega arith), eq-eqb ((256 + 2 * q) % 2) 0 (omega arith), e))
+  selected-bit q c hq hc = stored-bit (selectedRow q) c (omega arith) hc ∙ point (stored-selected (r .bits) q) c
 
   pub allowed-bit : (q c : ℕ) → q < policySlots → c < containerSlots → rowBit m (allowedRow q) c ≡ r .bits .allowed q c
-  unfolding storedBit
-  allowed-bit q c hq hc =
-      let e : (257 + 2 * q - 256) / 2 ≡ q = omega arith in
-      stored-bit (257 + 2 * q) c (omega arith) hc ∙ (rw (le-ltb (257 + 2 * q) 256 (omega arith), ne-eqb ((257 + 2 * q) % 2) 0 (λ z. omega arith), e))
+  allowed-bit q c hq hc = stored-bit (allowedRow q) c (omega arith) hc ∙ point (stored-allowed (r .bits) q) c
 
 -- ---- the registry is read back
 
@@ -118,23 +104,29 @@ module _ (r : Registry) (ok : Acceptable r) (m : List ℕ) (h : Holds m (content
       let p : tab policySlots (policyIn m) ≡ r .model .policies = policies-back in
       λ i. record { settings = s i; containers = c i; policies = p i }
 
-  container-in : (c : ℕ) → stands (r .model .containers) c ≡ true → c < containerSlots
-  container-in c e = let l = stands-below (r .model .containers) c e in let n = ok .containers in omega arith
-
-  policy-in : (q : ℕ) → stands (r .model .policies) q ≡ true → q < policySlots
-  policy-in q e = let l = stands-below (r .model .policies) q e in let n = ok .policies in omega arith
+  -- slots that both stand lie within their tables
+  both-in : {A : Type 0} (t : Table A) (n : ℕ) → length t ≡ n → (x c : ℕ) → (stands t x && stands (r .model .containers) c) ≡ true → (x < n) × (c < containerSlots)
+  both-in t n long x c e =
+      let s = both (stands t x) (stands (r .model .containers) c) e in
+      let a = stands-below t x (s .0) in
+      let b = stands-below (r .model .containers) c (s .1) in
+      let k = ok .containers in
+      (omega arith, omega arith)
 
   matrix-back : (λ a b. bitWithin m containerSlots a a b) ≡ r .bits .matrix
-  matrix-back = fun-ext (λ a. fun-ext (λ b. within-back m containerSlots a a b (r .bits .matrix a b) (λ x y. matrix-bit r m h a b x y)
-      (λ e. let s = both _ _ (ok .matrix a b e) in (container-in a (s .0), container-in b (s .1)))))
+  matrix-back =
+      table-back m containerSlots (λ a. a) (r .bits .matrix) (matrix-bit r m h)
+      (λ a b e. both-in (r .model .containers) containerSlots (ok .containers) a b (ok .matrix a b e))
 
   selected-back : (λ q c. bitWithin m policySlots q (selectedRow q) c) ≡ r .bits .selected
-  selected-back = fun-ext (λ q. fun-ext (λ c. within-back m policySlots q (selectedRow q) c (r .bits .selected q c) (λ x y. selected-bit r m h q c x y)
-      (λ e. let s = both _ _ (ok .selected q c e) in (policy-in q (s .0), container-in c (s .1)))))
+  selected-back =
+      table-back m policySlots selectedRow (r .bits .selected) (selected-bit r m h)
+      (λ q c e. both-in (r .model .policies) policySlots (ok .policies) q c (ok .selected q c e))
 
   allowed-back : (λ q c. bitWithin m policySlots q (allowedRow q) c) ≡ r .bits .allowed
-  allowed-back = fun-ext (λ q. fun-ext (λ c. within-back m policySlots q (allowedRow q) c (r .bits .allowed q c) (λ x y. allowed-bit r m h q c x y)
-      (λ e. let s = both _ _ (ok .allowed q c e) in (policy-in q (s .0), container-in c (s .1)))))
+  allowed-back =
+      table-back m policySlots allowedRow (r .bits .allowed) (allowed-bit r m h)
+      (λ q c e. both-in (r .model .policies) policySlots (ok .policies) q c (ok .allowed q c e))
 
   bits-back : bitsIn m ≡ r .bits
   unfolding bitsIn
@@ -170,9 +162,9 @@ pub image-inj : (r s : Registry) → Acceptable r → Acceptable s → image r �
 image-inj r s a b e = sym (registry-image r a) ∙ ap registryIn e ∙ registry-image s b
 
 -- a memory that holds a registry's contents is its image
-pub written : (r : Registry) (m : List ℕ) → Holds m (contentsOf r) → ((k : ℕ) → wordAt m k < 2 ^ 64) → m ≡ image r
+pub image-written : (r : Registry) (m : List ℕ) → Holds m (contentsOf r) → ((k : ℕ) → wordAt m k < 2 ^ 64) → m ≡ image r
 unfolding image
-written r m h fit = holds-image h fit
+image-written r m h fit = holds-image h fit
 
 -- ---- every word of an image fits 64 bits
 
@@ -202,16 +194,12 @@ settings-small s b (suc (suc zero)) = omega arith
 settings-small s b (suc (suc (suc k))) = omega arith
 
 pub entry-small : (r : Registry) → Acceptable r → (k : ℕ) → entryWord (r .model) k ≤ 2 ^ 23
-unfolding entryWord
 entry-small r ok k =
     let s = r .model .settings in
-    let x = at (r .model .containers) ((k - 3) / 9) in
-    let y = at (r .model .policies) ((k - 2307) / 11) in
-    by-ltb (λ t. cond t (settingsWord s k) (cond (ltb k 2307) (containerWord x ((k - 3) % 9)) (policyWord y ((k - 2307) % 11))) ≤ 2 ^ 23) k 3
+    by-part (λ w. w ≤ 2 ^ 23) (r .model) k
     (λ l. settings-small s (settings-bounds s (ok .settings)) k)
-    (λ l. by-ltb (λ t. cond t (containerWord x ((k - 3) % 9)) (policyWord y ((k - 2307) % 11)) ≤ 2 ^ 23) k 2307
-    (λ g. container-small s x (ok .container ((k - 3) / 9)) ((k - 3) % 9))
-    (λ g. policy-small s y (ok .policy ((k - 2307) / 11)) ((k - 2307) % 11)))
+    (λ l g. container-small s (at (r .model .containers) ((k - containersStart) / containerWords)) (ok .container ((k - containersStart) / containerWords)) ((k - containersStart) % containerWords))
+    (λ g. policy-small s (at (r .model .policies) ((k - policiesStart) / policyWords)) (ok .policy ((k - policiesStart) / policyWords)) ((k - policiesStart) % policyWords))
 
 pub image-fits : (r : Registry) → Acceptable r → (k : ℕ) → getD (image r) k 0 < 2 ^ 64
 unfolding image contentsOf

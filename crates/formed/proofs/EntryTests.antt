@@ -1,4 +1,4 @@
--- The tests of a part and of a slot pass exactly if the words are those of what they say, and that is valid. Assumes nothing.
+-- The tests of a part and of a slot pass exactly if the words are those of what they say, and that is valid.
 use mathlib.Core.Path.{_≡_, refl, sym, ap, ap₂, _∙_}
 use mathlib.Core.Bool.{Bool, true, false, _&&_, cond}
 use mathlib.Core.List.{List, [], _∷_, map}
@@ -12,13 +12,14 @@ use borrow.Author.Tests.{ltb-true, leb-true, lt-ltb, le-ltb, le-leb, eqb-true, e
 use Rattle.block.specs.Entry.{Label, Settings, ingress, egress}
 use Rattle.block.specs.Reader.{within, directionOf}
 use Rattle.block.specs.Written.{directionNumber, inRange, allInRange, risingAfter, rising, validLabels, validEntry}
-use Rattle.store.specs.Layout.{containerStart, policyStart, wordAt}
+use Rattle.store.specs.Layout.{containerWords, policyWords, selectOffset, allowOffset, containerStart, policyStart, wordAt}
 use Rattle.store.proofs.Cases.{by-ltb}
 use Rattle.formed.specs.Words.{labelWord, partWord, containerWord, policyWord, labelIn, labelsIn, partIn, containerIn, policyAt, policyIn}
+use Rattle.formed.specs.Registry.{validContainer, validPolicy}
 use Rattle.formed.specs.Tests.{_and_, choose, zeros, labelOk, labelsOk, labelsBetween, partOk, containerOk, policyOk}
 use Rattle.formed.proofs.Tests.{both}
 use Rattle.formed.proofs.Parts.{label-word, label-bounds, length-labels, labels-few}
-use Rattle.formed.proofs.Slots.{validContainer, validPolicy, Words, first-word, direction-small}
+use Rattle.formed.proofs.Slots.{Words, first-word, direction-small}
 use Rattle.formed.proofs.Runs.{and-left, and-right, and-passes, between-at, between-all}
 
 -- ---- labels
@@ -165,24 +166,24 @@ zeros-pass m s n w =
 
 module _ (s : Settings) (m : List ℕ) (c : ℕ) where
   pub container-holds : containerOk m c ≡ true
-      → (validContainer s (containerIn m c) ≡ true) × Words m (containerStart c) 9 (containerWord (containerIn m c))
+      → (validContainer s (containerIn m c) ≡ true) × Words m (containerStart c) containerWords (containerWord (containerIn m c))
   unfolding containerOk containerIn choose validEntry
   container-holds ok = go (eqb (wordAt m (containerStart c)) 0) ok
     where
-      go : (t : Bool) → choose t (zeros m (containerStart c) (containerStart c + 9)) (partOk m (containerStart c) 8) ≡ true
+      go : (t : Bool) → choose t (zeros m (containerStart c) (containerStart c + containerWords)) (partOk m (containerStart c) 8) ≡ true
           → (validContainer s (cond t none (some (partIn m (containerStart c)))) ≡ true)
-          × Words m (containerStart c) 9 (containerWord (cond t none (some (partIn m (containerStart c)))))
-      go true e = (refl, zeros-at m (containerStart c) 9 e)
+          × Words m (containerStart c) containerWords (containerWord (cond t none (some (partIn m (containerStart c)))))
+      go true e = (refl, zeros-at m (containerStart c) containerWords e)
       go false e = (part-valid m (containerStart c) 8 e, part-words m (containerStart c) 8 e)
 
-  pub container-passes : validContainer s (containerIn m c) ≡ true → Words m (containerStart c) 9 (containerWord (containerIn m c)) → containerOk m c ≡ true
+  pub container-passes : validContainer s (containerIn m c) ≡ true → Words m (containerStart c) containerWords (containerWord (containerIn m c)) → containerOk m c ≡ true
   unfolding containerOk containerIn choose validEntry
   container-passes v w = go (eqb (wordAt m (containerStart c)) 0) v w
     where
       go : (t : Bool) → validContainer s (cond t none (some (partIn m (containerStart c)))) ≡ true
-          → Words m (containerStart c) 9 (containerWord (cond t none (some (partIn m (containerStart c)))))
-          → choose t (zeros m (containerStart c) (containerStart c + 9)) (partOk m (containerStart c) 8) ≡ true
-      go true v w = zeros-pass m (containerStart c) 9 w
+          → Words m (containerStart c) containerWords (containerWord (cond t none (some (partIn m (containerStart c)))))
+          → choose t (zeros m (containerStart c) (containerStart c + containerWords)) (partOk m (containerStart c) 8) ≡ true
+      go true v w = zeros-pass m (containerStart c) containerWords w
       go false v w = part-passes m (containerStart c) 8 v w
 
 -- ---- a policy's slot
@@ -197,64 +198,64 @@ direction-word d n h = go (eqb d 1) refl
 
 module _ (m : List ℕ) (q : ℕ) where
   abbrev entryOk : Bool
-  entryOk = leb (wordAt m (policyStart q)) 2 and (partOk m (policyStart q + 1) 4 and partOk m (policyStart q + 6) 4)
+  entryOk = leb (wordAt m (policyStart q)) 2 and (partOk m (policyStart q + selectOffset) 4 and partOk m (policyStart q + allowOffset) 4)
 
-  entry-words : (wordAt m (policyStart q) ≡ 0 → ⊥) → entryOk ≡ true → Words m (policyStart q) 11 (policyWord (some (policyAt m q)))
+  entry-words : (wordAt m (policyStart q) ≡ 0 → ⊥) → entryOk ≡ true → Words m (policyStart q) policyWords (policyWord (some (policyAt m q)))
   unfolding policyAt
   entry-words n e zero h =
       ap (λ i. wordAt m i) (add-zero (policyStart q)) ∙ direction-word (wordAt m (policyStart q)) n (leb-true _ _ (and-left _ _ e))
   entry-words n e (suc k) h =
       let s = policyStart q in
-      let a : s + suc k ≡ s + 1 + k = omega arith in
-      by-ltb (λ t. wordAt m (s + suc k) ≡ cond t (partWord (partIn m (s + 1)) k) (partWord (partIn m (s + 6)) (k - 5))) k 5
-      (λ l. ap (λ i. wordAt m i) a ∙ part-words m (s + 1) 4 (and-left _ _ (and-right _ _ e)) k (omega arith))
-      (λ l. let b : s + suc k ≡ s + 6 + (k - 5) = omega arith in
-      ap (λ i. wordAt m i) b ∙ part-words m (s + 6) 4 (and-right _ _ (and-right _ _ e)) (k - 5) (omega arith))
+      let a : s + suc k ≡ s + selectOffset + k = omega arith in
+      by-ltb (λ t. wordAt m (s + suc k) ≡ cond t (partWord (partIn m (s + selectOffset)) k) (partWord (partIn m (s + allowOffset)) (k - 5))) k 5
+      (λ l. ap (λ i. wordAt m i) a ∙ part-words m (s + selectOffset) 4 (and-left _ _ (and-right _ _ e)) k (omega arith))
+      (λ l. let b : s + suc k ≡ s + allowOffset + (k - 5) = omega arith in
+      ap (λ i. wordAt m i) b ∙ part-words m (s + allowOffset) 4 (and-right _ _ (and-right _ _ e)) (k - 5) (omega arith))
 
   entry-valid : entryOk ≡ true → (validLabels 4 (policyAt m q .select) && validLabels 4 (policyAt m q .allow)) ≡ true
   unfolding policyAt
   entry-valid e =
-      ap₂ _&&_ (part-valid m (policyStart q + 1) 4 (and-left _ _ (and-right _ _ e))) (part-valid m (policyStart q + 6) 4 (and-right _ _ (and-right _ _ e)))
+      ap₂ _&&_ (part-valid m (policyStart q + selectOffset) 4 (and-left _ _ (and-right _ _ e))) (part-valid m (policyStart q + allowOffset) 4 (and-right _ _ (and-right _ _ e)))
 
   entry-passes : (validLabels 4 (policyAt m q .select) && validLabels 4 (policyAt m q .allow)) ≡ true
-      → Words m (policyStart q) 11 (policyWord (some (policyAt m q))) → entryOk ≡ true
+      → Words m (policyStart q) policyWords (policyWord (some (policyAt m q))) → entryOk ≡ true
   unfolding policyAt
   entry-passes v w =
       let s = policyStart q in
       let n = first-word m s 10 (policyWord (some (policyAt m q))) w in
       let d = direction-small (policyAt m q .direction) in
-      let b = both (validLabels 4 (partIn m (s + 1))) (validLabels 4 (partIn m (s + 6))) v in
+      let b = both (validLabels 4 (partIn m (s + selectOffset))) (validLabels 4 (partIn m (s + allowOffset))) v in
       and-passes _ _ (le-leb (wordAt m s) 2 (omega arith))
-      (and-passes _ _ (part-passes m (s + 1) 4 (b .0) (select-words w)) (part-passes m (s + 6) 4 (b .1) (allow-words w)))
+      (and-passes _ _ (part-passes m (s + selectOffset) 4 (b .0) (select-words w)) (part-passes m (s + allowOffset) 4 (b .1) (allow-words w)))
     where
-      select-words : Words m (policyStart q) 11 (policyWord (some (policyAt m q))) → Words m (policyStart q + 1) (4 + 1) (partWord (partIn m (policyStart q + 1)))
+      select-words : Words m (policyStart q) policyWords (policyWord (some (policyAt m q))) → Words m (policyStart q + selectOffset) (4 + 1) (partWord (partIn m (policyStart q + selectOffset)))
       select-words w j h =
-          let e : policyStart q + 1 + j ≡ policyStart q + suc j = omega arith in
+          let e : policyStart q + selectOffset + j ≡ policyStart q + suc j = omega arith in
           ap (λ k. wordAt m k) e ∙ w (suc j) (omega arith) ∙ (rw (lt-ltb j 5 (omega arith)))
 
-      allow-words : Words m (policyStart q) 11 (policyWord (some (policyAt m q))) → Words m (policyStart q + 6) (4 + 1) (partWord (partIn m (policyStart q + 6)))
+      allow-words : Words m (policyStart q) policyWords (policyWord (some (policyAt m q))) → Words m (policyStart q + allowOffset) (4 + 1) (partWord (partIn m (policyStart q + allowOffset)))
       allow-words w j h =
-          let e : policyStart q + 6 + j ≡ policyStart q + suc (5 + j) = omega arith in
+          let e : policyStart q + allowOffset + j ≡ policyStart q + suc (5 + j) = omega arith in
           let i : 5 + j - 5 ≡ j = omega arith in
           ap (λ k. wordAt m k) e ∙ w (suc (5 + j)) (omega arith) ∙ (rw (le-ltb (5 + j) 5 (omega arith), i))
 
 module _ (s : Settings) (m : List ℕ) (q : ℕ) where
   pub policy-holds : policyOk m q ≡ true
-      → (validPolicy s (policyIn m q) ≡ true) × Words m (policyStart q) 11 (policyWord (policyIn m q))
+      → (validPolicy s (policyIn m q) ≡ true) × Words m (policyStart q) policyWords (policyWord (policyIn m q))
   unfolding policyOk policyIn choose validEntry
   policy-holds ok = go (eqb (wordAt m (policyStart q)) 0) refl ok
     where
-      go : (t : Bool) → eqb (wordAt m (policyStart q)) 0 ≡ t → choose t (zeros m (policyStart q) (policyStart q + 11)) (entryOk m q) ≡ true
-          → (validPolicy s (cond t none (some (policyAt m q))) ≡ true) × Words m (policyStart q) 11 (policyWord (cond t none (some (policyAt m q))))
-      go true z e = (refl, zeros-at m (policyStart q) 11 e)
+      go : (t : Bool) → eqb (wordAt m (policyStart q)) 0 ≡ t → choose t (zeros m (policyStart q) (policyStart q + policyWords)) (entryOk m q) ≡ true
+          → (validPolicy s (cond t none (some (policyAt m q))) ≡ true) × Words m (policyStart q) policyWords (policyWord (cond t none (some (policyAt m q))))
+      go true z e = (refl, zeros-at m (policyStart q) policyWords e)
       go false z e = (entry-valid m q e, entry-words m q (eqb-false _ _ z) e)
 
-  pub policy-passes : validPolicy s (policyIn m q) ≡ true → Words m (policyStart q) 11 (policyWord (policyIn m q)) → policyOk m q ≡ true
+  pub policy-passes : validPolicy s (policyIn m q) ≡ true → Words m (policyStart q) policyWords (policyWord (policyIn m q)) → policyOk m q ≡ true
   unfolding policyOk policyIn choose validEntry
   policy-passes v w = go (eqb (wordAt m (policyStart q)) 0) v w
     where
       go : (t : Bool) → validPolicy s (cond t none (some (policyAt m q))) ≡ true
-          → Words m (policyStart q) 11 (policyWord (cond t none (some (policyAt m q))))
-          → choose t (zeros m (policyStart q) (policyStart q + 11)) (entryOk m q) ≡ true
-      go true v w = zeros-pass m (policyStart q) 11 w
+          → Words m (policyStart q) policyWords (policyWord (cond t none (some (policyAt m q))))
+          → choose t (zeros m (policyStart q) (policyStart q + policyWords)) (entryOk m q) ≡ true
+      go true v w = zeros-pass m (policyStart q) policyWords w
       go false v w = entry-passes m q v w

@@ -1,4 +1,4 @@
--- A memory is well formed exactly if it is whole, says an acceptable registry, and is that registry's image. Assumes nothing.
+-- A memory is well formed exactly if it is whole, says an acceptable registry, and is that registry's image.
 use mathlib.Core.Path.{_≡_, refl, sym, ap, ap₂, subst}
 use mathlib.Core.Bool.{true, _&&_}
 use mathlib.Core.Logic.{_↔_}

@@ -1,4 +1,4 @@
--- Labels as a count and words: what `packed` and `unpacked` do to one another. Assumes nothing.
+-- Labels as a count and words: what `packed` and `unpacked` do to one another.
 use mathlib.Core.Path.{_≡_, refl, sym, ap, ap₂, _∙_}
 use mathlib.Core.Bool.{true}
 use mathlib.Core.List.{List, [], _∷_, map}

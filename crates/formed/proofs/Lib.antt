@@ -2,6 +2,7 @@
 pub mod Tests
 pub mod Parts
 pub mod Slots
+pub mod StoredLaws
 pub mod Back
 pub mod Acceptable
 pub mod Formed
@@ -12,4 +13,3 @@ pub mod Rows
 pub mod EntryTests
 pub mod TestsFormed
 pub mod LabelLaws
-pub mod StoredLaws

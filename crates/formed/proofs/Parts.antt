@@ -1,4 +1,4 @@
--- Labels and parts: what is read from a part's words, and how large the words are. Assumes nothing.
+-- Labels and parts: what is read from a part's words, and how large the words are.
 use mathlib.Core.Path.{_≡_, refl, sym, ap, ap₂, _∙_}
 use mathlib.Core.Bool.{true, _&&_}
 use mathlib.Core.List.{List, [], _∷_, map}
@@ -11,10 +11,11 @@ use lib.ListN.{length, getD}
 use borrow.Author.Tests.{leb-true}
 use Rattle.block.specs.Entry.{Label}
 use Rattle.block.specs.Reader.{within}
+use Rattle.block.proofs.Checks.{within-bounds}
 use Rattle.block.specs.Written.{inRange, allInRange, rising, validLabels}
 use Rattle.store.specs.Layout.{wordAt}
 use Rattle.formed.specs.Words.{labelWord, partWord, labelIn, labelsIn, partIn}
-use Rattle.formed.proofs.Tests.{both, within-bounds}
+use Rattle.formed.proofs.Tests.{both}
 
 -- ---- labels
 
@@ -106,8 +107,3 @@ module _ (limit : ℕ) (ls : List Label) (v : validLabels limit ls ≡ true) whe
     where
       shift : (j : ℕ) → s + 1 + j ≡ s + suc j
       shift j = omega arith
-
--- the header of a part that says at most `limit` labels
-pub head-bound : (m : List ℕ) (s limit : ℕ) → validLabels limit (partIn m s) ≡ true → wordAt m s ≤ limit + 1
-unfolding partIn
-head-bound m s limit v = omega (arith, labels-few limit (partIn m s) v, length-labels m (s + 1) (wordAt m s - 1))

@@ -1,9 +1,9 @@
--- What a memory says at each slot, and what the words of a well-formed memory can be. Assumes nothing.
+-- What a memory says at each slot, and what the words of a well-formed memory can be.
 use mathlib.Core.Path.{_≡_, refl, ap, _∙_, subst}
 use mathlib.Core.Bool.{true, not, _&&_, cond}
 use mathlib.Core.List.{List}
 use mathlib.Core.Option.{Option, none, some}
-use Prim.Native.Nat.{ℕ, suc, _+_, _^_, _<_, _≤_}
+use Prim.Native.Nat.{ℕ, _+_, _^_, _<_, _≤_}
 use native.Mathlib.Omega.{arith}
 use lib.Dec.{eqb, ltb}
 use lib.ListN.{length}
@@ -11,14 +11,14 @@ use borrow.Author.Tests.{lt-ltb, eq-eqb, ne-eqb}
 use Rattle.block.specs.Entry.{Container, Policy, Settings}
 use Rattle.model.specs.Table.{on, at, stands}
 use Rattle.model.specs.Model.{containerSlots, policySlots}
-use Rattle.store.specs.Layout.{memoryWords, rowsStart, containerStart, policyStart, selectedRow, allowedRow, wordAt, rowBit}
+use Rattle.store.specs.Layout.{containerWords, policyWords, selectOffset, allowOffset, memoryWords, rowsStart, containerStart, policyStart, selectedRow, allowedRow, wordAt, rowBit}
 use Rattle.store.specs.Contents.{tab}
 use Rattle.store.proofs.Cases.{by-ltb, by-eqb}
 use Rattle.store.proofs.Image.{getD-tab, tab-beyond}
 use Rattle.formed.specs.Words.{containerWord, policyWord, partWord, settingsIn, partIn, containerIn, policyAt, policyIn}
-use Rattle.formed.specs.Registry.{modelIn, bitWithin, bitsIn, registryIn, wellFormed}
+use Rattle.formed.specs.Registry.{modelIn, bitWithin, bitsIn, registryIn, validContainer, validPolicy, wellFormed}
 use Rattle.formed.proofs.Parts.{labels-few}
-use Rattle.formed.proofs.Slots.{Words, validContainer, validPolicy, valid-container, valid-policy, direction-small, first-word}
+use Rattle.formed.proofs.Slots.{Words, valid-container, valid-policy, direction-small, first-word}
 use Rattle.formed.proofs.Back.{SettingsBounds, settings-bounds, container-words, policy-words, image-fits, entry-small, entry-word}
 use Rattle.formed.proofs.Formed.{formed-memory, formed-holds}
 
@@ -98,12 +98,12 @@ module _ (m : List ℕ) where
 -- ---- a well-formed memory
 
 -- the heads of valid slots
-container-head : (s : Settings) (o : Option Container) → validContainer s o ≡ true → containerWord o 0 ≤ 9
+container-head : (s : Settings) (o : Option Container) → validContainer s o ≡ true → containerWord o 0 ≤ containerWords
 unfolding partWord
 container-head s none v = omega arith
 container-head s (some ls) v = omega (arith, labels-few 8 ls (valid-container s ls v))
 
-policy-heads : (s : Settings) (o : Option Policy) → validPolicy s o ≡ true → (policyWord o 0 ≤ 2) × (policyWord o 1 ≤ 5) × (policyWord o 6 ≤ 5)
+policy-heads : (s : Settings) (o : Option Policy) → validPolicy s o ≡ true → (policyWord o 0 ≤ 2) × (policyWord o selectOffset ≤ 5) × (policyWord o allowOffset ≤ 5)
 unfolding partWord
 policy-heads s none v = (omega arith, omega arith, omega arith)
 policy-heads s (some p) v =
@@ -115,12 +115,12 @@ module _ (m : List ℕ) (ok : wellFormed m ≡ true) where
   formed-whole = formed-memory m ok .whole
 
   -- the words of each slot are those of what it holds
-  pub formed-container : (c : ℕ) → c < containerSlots → Words m (containerStart c) 9 (containerWord (containerIn m c))
+  pub formed-container : (c : ℕ) → c < containerSlots → Words m (containerStart c) containerWords (containerWord (containerIn m c))
   unfolding registryIn
   formed-container c h k l =
       container-words (registryIn m) m (formed-holds m ok) c h k l ∙ ap (λ o. containerWord o k) (container-slot m c h)
 
-  pub formed-policy : (q : ℕ) → q < policySlots → Words m (policyStart q) 11 (policyWord (policyIn m q))
+  pub formed-policy : (q : ℕ) → q < policySlots → Words m (policyStart q) policyWords (policyWord (policyIn m q))
   unfolding registryIn
   formed-policy q h k l =
       policy-words (registryIn m) m (formed-holds m ok) q h k l ∙ ap (λ o. policyWord o k) (policy-slot m q h)
@@ -131,8 +131,8 @@ module _ (m : List ℕ) (ok : wellFormed m ≡ true) where
   unfolding registryIn modelIn
   formed-settings = settings-bounds (settingsIn m) (formed-memory m ok .acceptable .settings)
 
-  -- the head of a container is at most 9
-  pub formed-head : (c : ℕ) → c < containerSlots → wordAt m (containerStart c) ≤ 9
+  -- the head of a container is at most one more than its limit
+  pub formed-head : (c : ℕ) → c < containerSlots → wordAt m (containerStart c) ≤ containerWords
   formed-head c h =
       let r = registryIn m in
       let o = at (r .model .containers) c in
@@ -146,10 +146,10 @@ module _ (m : List ℕ) (ok : wellFormed m ≡ true) where
     abbrev held : Option Policy
     held = at (registryIn m .model .policies) q
 
-    held-words : Words m (policyStart q) 11 (policyWord held)
+    held-words : Words m (policyStart q) policyWords (policyWord held)
     held-words = policy-words (registryIn m) m (formed-holds m ok) q h
 
-    held-heads : (policyWord held 0 ≤ 2) × (policyWord held 1 ≤ 5) × (policyWord held 6 ≤ 5)
+    held-heads : (policyWord held 0 ≤ 2) × (policyWord held selectOffset ≤ 5) × (policyWord held allowOffset ≤ 5)
     held-heads = policy-heads (registryIn m .model .settings) held (formed-memory m ok .acceptable .policy q)
 
     -- a policy's direction is 0, 1 or 2
@@ -157,18 +157,8 @@ module _ (m : List ℕ) (ok : wellFormed m ≡ true) where
     formed-direction = omega (arith, first-word m (policyStart q) 10 (policyWord held) held-words, held-heads .0)
 
     -- the heads of its parts are at most 5
-    pub formed-parts : (wordAt m (policyStart q + 1) ≤ 5) × (wordAt m (policyStart q + 6) ≤ 5)
-    formed-parts = (omega (arith, held-words 1 (omega arith), held-heads .1), omega (arith, held-words 6 (omega arith), held-heads .2))
-
-    -- and at least 1 where the policy stands
-    pub formed-counts : (wordAt m (policyStart q) ≡ 0 → ⊥) → (1 ≤ wordAt m (policyStart q + 1)) × (1 ≤ wordAt m (policyStart q + 6))
-    unfolding partWord
-    formed-counts n =
-        let p = policyAt m q in
-        let e : policyIn m q ≡ some p = policy-taken m q n in
-        let s : wordAt m (policyStart q + 1) ≡ suc (length (p .select)) = formed-policy q h 1 (omega arith) ∙ ap (λ o. policyWord o 1) e in
-        let a : wordAt m (policyStart q + 6) ≡ suc (length (p .allow)) = formed-policy q h 6 (omega arith) ∙ ap (λ o. policyWord o 6) e in
-        (omega arith, omega arith)
+    pub formed-parts : (wordAt m (policyStart q + selectOffset) ≤ 5) × (wordAt m (policyStart q + allowOffset) ≤ 5)
+    formed-parts = (omega (arith, held-words selectOffset (omega arith), held-heads .1), omega (arith, held-words allowOffset (omega arith), held-heads .2))
 
   -- a word before the rows is small, and every word fits
   pub formed-small : (k : ℕ) → k < rowsStart → wordAt m k ≤ 2 ^ 23

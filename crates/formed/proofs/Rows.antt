@@ -1,4 +1,4 @@
--- The test of a row: as the code makes it, and what it says of the row's bits. Assumes nothing.
+-- The test of a row: as the code makes it, and what it says of the row's bits.
 use mathlib.Core.Path.{_≡_, refl, sym, ap, _∙_}
 use mathlib.Core.Bool.{Bool, true, false, not, _&&_, cond}
 use mathlib.Core.List.{List}

@@ -1,4 +1,4 @@
--- Laws of joined tests: a conjunction, a choice, a test of each place in a run; and of the labels in a run. Assumes nothing.
+-- Laws of joined tests: a conjunction, a choice, a test of each place in a run; and of the labels in a run.
 use mathlib.Core.Path.{_≡_, refl, sym, ap, _∙_}
 use mathlib.Core.Bool.{Bool, true, false, not}
 use mathlib.Core.List.{List}

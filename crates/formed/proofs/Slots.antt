@@ -1,6 +1,6 @@
--- Slots: what is read from a slot's words, and how large the words are. Assumes nothing.
+-- Slots: what is read from a slot's words, and how large the words are.
 use mathlib.Core.Path.{_≡_, refl, sym, ap, _∙_}
-use mathlib.Core.Bool.{Bool, true, cond}
+use mathlib.Core.Bool.{true, cond}
 use mathlib.Core.List.{List}
 use mathlib.Core.Option.{Option, none, some}
 use Prim.Native.Nat.{ℕ, zero, suc, _+_, _-_, _^_, _<_, _≤_}
@@ -11,10 +11,10 @@ use borrow.Author.Tests.{lt-ltb, le-ltb, eq-eqb, ne-eqb}
 use Rattle.block.specs.Entry.{Container, Direction, ingress, egress, Policy, Settings, container, policy}
 use Rattle.block.specs.Reader.{directionOf}
 use Rattle.block.specs.Written.{directionNumber, validLabels, validEntry}
-use Rattle.store.specs.Layout.{containerStart, policyStart, wordAt}
+use Rattle.store.specs.Layout.{containerWords, policyWords, selectOffset, allowOffset, containerStart, policyStart, wordAt}
 use Rattle.store.proofs.Cases.{by-ltb}
 use Rattle.formed.specs.Words.{partWord, containerWord, policyWord, partIn, containerIn, policyAt, policyIn}
-use Rattle.formed.specs.Registry.{freeOr}
+use Rattle.formed.specs.Registry.{validContainer, validPolicy}
 use Rattle.formed.proofs.Tests.{both}
 use Rattle.formed.proofs.Parts.{part-back, part-small}
 
@@ -41,12 +41,6 @@ direction-small egress = (omega arith, omega arith)
 
 -- ---- containers
 
-abbrev pub validContainer : Settings → Option Container → Bool
-validContainer s o = freeOr (λ x. validEntry s (container x)) o
-
-abbrev pub validPolicy : Settings → Option Policy → Bool
-validPolicy s o = freeOr (λ x. validEntry s (policy x)) o
-
 -- the words from position p on are f's, n of them
 abbrev pub Words : List ℕ → ℕ → ℕ → (ℕ → ℕ) → Type 0
 Words m p n f = (k : ℕ) → k < n → wordAt m (p + k) ≡ f k
@@ -56,7 +50,7 @@ first-word m p n f w = ap (λ k. wordAt m k) (sym (add-zero p)) ∙ w 0 (omega a
 
 module _ (s : Settings) (m : List ℕ) (c : ℕ) where
   -- a slot whose words are those of a container that is valid holds it
-  pub container-back : (o : Option Container) → validContainer s o ≡ true → Words m (containerStart c) 9 (containerWord o) → containerIn m c ≡ o
+  pub container-back : (o : Option Container) → validContainer s o ≡ true → Words m (containerStart c) containerWords (containerWord o) → containerIn m c ≡ o
   unfolding containerIn partWord
   container-back none v w = rw (eq-eqb (wordAt m (containerStart c)) 0 (first-word m (containerStart c) 8 (containerWord none) w))
   container-back (some ls) v w =
@@ -70,18 +64,18 @@ container-small s (some ls) v k = part-small 8 ls (valid-container s ls v) (omeg
 
 -- ---- policies
 
-module _ (m : List ℕ) (q : ℕ) (p : Policy) (w : Words m (policyStart q) 11 (policyWord (some p))) where
+module _ (m : List ℕ) (q : ℕ) (p : Policy) (w : Words m (policyStart q) policyWords (policyWord (some p))) where
   direction-word : wordAt m (policyStart q) ≡ directionNumber (p .direction)
   direction-word = first-word m (policyStart q) 10 (policyWord (some p)) w
 
-  select-words : Words m (policyStart q + 1) 5 (partWord (p .select))
+  select-words : Words m (policyStart q + selectOffset) 5 (partWord (p .select))
   select-words j h =
-      let e : policyStart q + 1 + j ≡ policyStart q + suc j = omega arith in
+      let e : policyStart q + selectOffset + j ≡ policyStart q + suc j = omega arith in
       ap (λ k. wordAt m k) e ∙ w (suc j) (omega arith) ∙ (rw (lt-ltb j 5 (omega arith)))
 
-  allow-words : Words m (policyStart q + 6) 5 (partWord (p .allow))
+  allow-words : Words m (policyStart q + allowOffset) 5 (partWord (p .allow))
   allow-words j h =
-      let e : policyStart q + 6 + j ≡ policyStart q + suc (5 + j) = omega arith in
+      let e : policyStart q + allowOffset + j ≡ policyStart q + suc (5 + j) = omega arith in
       let i : 5 + j - 5 ≡ j = omega arith in
       ap (λ k. wordAt m k) e ∙ w (suc (5 + j)) (omega arith) ∙ (rw (le-ltb (5 + j) 5 (omega arith), i))
 
@@ -89,15 +83,15 @@ module _ (m : List ℕ) (q : ℕ) (p : Policy) (w : Words m (policyStart q) 11 (
   unfolding policyAt
   policy-at-back f =
       let d : directionOf (wordAt m (policyStart q)) ≡ p .direction = ap directionOf direction-word ∙ direction-back (p .direction) in
-      let s : partIn m (policyStart q + 1) ≡ p .select = part-back 4 (p .select) (f .select) m (policyStart q + 1) select-words in
-      let a : partIn m (policyStart q + 6) ≡ p .allow = part-back 4 (p .allow) (f .allow) m (policyStart q + 6) allow-words in
+      let s : partIn m (policyStart q + selectOffset) ≡ p .select = part-back 4 (p .select) (f .select) m (policyStart q + selectOffset) select-words in
+      let a : partIn m (policyStart q + allowOffset) ≡ p .allow = part-back 4 (p .allow) (f .allow) m (policyStart q + allowOffset) allow-words in
       λ i. record { direction = d i; select = s i; allow = a i }
 
   policy-stands : wordAt m (policyStart q) ≡ 0 → ⊥
   policy-stands z = let n = direction-word in let d = direction-small (p .direction) in omega arith
 
 module _ (s : Settings) (m : List ℕ) (q : ℕ) where
-  pub policy-back : (o : Option Policy) → validPolicy s o ≡ true → Words m (policyStart q) 11 (policyWord o) → policyIn m q ≡ o
+  pub policy-back : (o : Option Policy) → validPolicy s o ≡ true → Words m (policyStart q) policyWords (policyWord o) → policyIn m q ≡ o
   unfolding policyIn
   policy-back none v w = rw (eq-eqb (wordAt m (policyStart q)) 0 (first-word m (policyStart q) 10 (policyWord none) w))
   policy-back (some p) v w =

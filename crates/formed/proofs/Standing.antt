@@ -1,4 +1,4 @@
--- Standing slots as bits: a word that a loop gathers, and four such words as the row of a table. Assumes nothing.
+-- Standing slots as bits: a word that a loop gathers, and four such words as the row of a table.
 use mathlib.Core.Path.{_≡_, refl, sym, ap, _∙_, fun-ext, ap₂}
 use mathlib.Core.Bool.{Bool, false, not, _&&_, and-true, and-false, and-comm, true}
 use mathlib.Core.List.{List, [], _∷_}
@@ -57,8 +57,8 @@ module _ (m : List ℕ) (from step first k w : ℕ) (e : bit w ≡ meet (firsts 
   firsts-take v h f z = word-take (firsts m from step first) k w e v h f (eq-eqb _ _ z)
 
 -- slot k of n that fit
-pub slot-within : (from step k n size : ℕ) → k < n → 0 < step → from + n * step ≤ size → from + step * k < size
-slot-within from step k n size h p q = omega (arith, mul-le-mul-left {m = k + 1} {n = n} step (omega arith))
+pub first-within : (from step k n size : ℕ) → k < n → 0 < step → from + n * step ≤ size → from + step * k < size
+first-within from step k n size h p q = omega (arith, mul-le-mul-left {m = k + 1} {n = n} step (omega arith))
 
 -- ---- four words as a row
 
@@ -134,17 +134,22 @@ module _ (m : List ℕ) where
   policies-stand = fun-ext (λ q. and-comm (not (eqb (wordAt m (policyStart q)) 0)) (ltb q policySlots) ∙ sym (policy-stands m q))
 
   pub containers-row : (a b c d : ℕ) → Fits w64 a → Fits w64 b → Fits w64 c → Fits w64 d
-      → bit a ≡ meet (firsts m 3 9 0) (under 64) → bit b ≡ meet (firsts m 579 9 0) (under 64)
-      → bit c ≡ meet (firsts m 1155 9 0) (under 64) → bit d ≡ meet (firsts m 1731 9 0) (under 64)
+      → bit a ≡ meet (firsts m containersStart containerWords 0) (under 64) → bit b ≡ meet (firsts m (containerStart 64) containerWords 0) (under 64)
+      → bit c ≡ meet (firsts m (containerStart 128) containerWords 0) (under 64) → bit d ≡ meet (firsts m (containerStart 192) containerWords 0) (under 64)
       → bitAt ((18446744073709551615 - a) ∷ (18446744073709551615 - b) ∷ (18446744073709551615 - c) ∷ (18446744073709551615 - d) ∷ []) ≡ stands (modelIn m .containers)
   containers-row a b c d fa fb fc fd e f g h =
-      four-words (passing m 3 9 taken) _ _ _ _
-      (slots-word m 3 9 taken 0 _ (standing-word 3 9 a fa e)) (slots-word m 3 9 taken 64 _ (standing-word 579 9 b fb f))
-      (slots-word m 3 9 taken 128 _ (standing-word 1155 9 c fc g)) (slots-word m 3 9 taken 192 _ (standing-word 1731 9 d fd h))
+      let at = containersStart in
+      let n = containerWords in
+      four-words (passing m at n taken) _ _ _ _
+      (slots-word m at n taken 0 _ (standing-word at n a fa e)) (slots-word m at n taken 64 _ (standing-word (containerStart 64) n b fb f))
+      (slots-word m at n taken 128 _ (standing-word (containerStart 128) n c fc g)) (slots-word m at n taken 192 _ (standing-word (containerStart 192) n d fd h))
       ∙ containers-stand
 
-  pub policies-row : (a b : ℕ) → Fits w64 a → Fits w64 b → bit a ≡ meet (firsts m 2307 11 0) (under 64) → bit b ≡ meet (firsts m 3011 11 0) (under 64)
+  pub policies-row : (a b : ℕ) → Fits w64 a → Fits w64 b
+      → bit a ≡ meet (firsts m policiesStart policyWords 0) (under 64) → bit b ≡ meet (firsts m (policyStart 64) policyWords 0) (under 64)
       → bitAt ((18446744073709551615 - a) ∷ (18446744073709551615 - b) ∷ 0 ∷ 0 ∷ []) ≡ stands (modelIn m .policies)
   policies-row a b fa fb e f =
-      two-words (passing m 2307 11 taken) _ _ (slots-word m 2307 11 taken 0 _ (standing-word 2307 11 a fa e)) (slots-word m 2307 11 taken 64 _ (standing-word 3011 11 b fb f))
+      let at = policiesStart in
+      let n = policyWords in
+      two-words (passing m at n taken) _ _ (slots-word m at n taken 0 _ (standing-word at n a fa e)) (slots-word m at n taken 64 _ (standing-word (policyStart 64) n b fb f))
       ∙ policies-stand

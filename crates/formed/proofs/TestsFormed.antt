@@ -1,6 +1,6 @@
--- The code's tests together are `wellFormed`, on every memory of our size whose words fit 64 bits. Assumes nothing.
+-- The code's tests together are `wellFormed`, on every memory of our size whose words fit 64 bits.
 use mathlib.Core.Path.{_≡_, refl, sym, ap, _∙_}
-use mathlib.Core.Bool.{Bool, true, false, not, _&&_, cond}
+use mathlib.Core.Bool.{Bool, true, false, not, _&&_}
 use mathlib.Core.List.{List}
 use Prim.Native.Nat.{ℕ, zero, suc, _+_, _-_, _/_, _%_, _^_, _<_, zero-le}
 use native.Mathlib.Omega.{arith}
@@ -14,14 +14,14 @@ use Rattle.block.specs.Entry.{Settings}
 use Rattle.block.specs.Written.{validSettings}
 use Rattle.model.specs.Table.{at, stands}
 use Rattle.model.specs.Model.{containerSlots, policySlots}
-use Rattle.store.specs.Layout.{memoryWords, rowsStart, containerStart, policyStart, selectedRow, allowedRow, Whole, wordAt, rowBit}
+use Rattle.store.specs.Layout.{settingsSize, containersStart, containerWords, policiesStart, policyWords, memoryWords, rowsStart, rowCount, containerStart, policyStart, selectedRow, allowedRow, Whole, wordAt, rowBit}
 use Rattle.store.specs.Contents.{Holds}
-use Rattle.store.proofs.Cases.{by-ltb, by-eqb}
+use Rattle.store.proofs.Cases.{by-ltb}
 use Rattle.formed.specs.Words.{settingsWord, containerWord, policyWord, settingsIn}
-use Rattle.formed.specs.Registry.{modelIn, bitsIn, registryIn, entryWord, storedBit, contentsOf, image, acceptable, Acceptable, sameWords, wellFormed}
+use Rattle.formed.specs.Registry.{modelIn, bitsIn, registryIn, entryWord, storedBit, contentsOf, image, validContainer, validPolicy, acceptable, Acceptable, sameWords, wellFormed}
 use Rattle.formed.specs.Tests.{containerOk, policyOk, containersOk, policiesOk, rowOk, matrixRowOk, setRowsOk, matrixOk, setsOk, tests}
-use Rattle.formed.proofs.Slots.{validContainer, validPolicy}
-use Rattle.formed.proofs.Back.{written}
+use Rattle.formed.proofs.StoredLaws.{by-part, by-table}
+use Rattle.formed.proofs.Back.{image-written}
 use Rattle.formed.proofs.Acceptable.{containers-size, policies-size, registry-bounded}
 use Rattle.formed.proofs.Formed.{formed-memory, memory-formed}
 use Rattle.formed.proofs.Reading.{container-slot, container-beyond, policy-slot, policy-beyond, container-stands, policy-stands, matrix-in, selected-in, allowed-in, formed-container, formed-policy}
@@ -31,17 +31,13 @@ use Rattle.formed.proofs.EntryTests.{container-holds, container-passes,
 
 -- ---- the bits of a memory are always those of what it says
 
-pub row-stored : (m : List ℕ) (x y : ℕ) → x < 512 → y < 256 → rowBit m x y ≡ storedBit (bitsIn m) x y
-unfolding storedBit
+row-stored : (m : List ℕ) (x y : ℕ) → x < rowCount → y < containerSlots → rowBit m x y ≡ storedBit (bitsIn m) x y
 row-stored m x y hx hy =
-    let q = (x - 256) / 2 in
-    let s = bitsIn m .selected q y in
-    let a = bitsIn m .allowed q y in
-    by-ltb (λ t. rowBit m x y ≡ cond t (bitsIn m .matrix x y) (cond (eqb (x % 2) 0) s a)) x 256
+    let q = (x - containerSlots) / 2 in
+    by-table (λ t. rowBit m x y ≡ t) (bitsIn m) x y
     (λ l. sym (matrix-in m x y l hy))
-    (λ l. by-eqb (λ t. rowBit m x y ≡ cond t s a) (x % 2) 0
-    (λ e. let i : x ≡ selectedRow q = omega arith in ap (λ r. rowBit m r y) i ∙ sym (selected-in m q y (omega arith) hy))
-    (λ e. let i : x ≡ allowedRow q = omega arith in ap (λ r. rowBit m r y) i ∙ sym (allowed-in m q y (omega arith) hy)))
+    (λ l e. let i : x ≡ selectedRow q = omega arith in ap (λ r. rowBit m r y) i ∙ sym (selected-in m q y (omega arith) hy))
+    (λ l e. let i : x ≡ allowedRow q = omega arith in ap (λ r. rowBit m r y) i ∙ sym (allowed-in m q y (omega arith) hy))
 
 -- ---- rows: one law for the matrix and both sets
 
@@ -119,15 +115,15 @@ module _ (m : List ℕ) (ok : tests m ≡ true) where
         allowed = λ i j t. bits-stand m policySlots policyStart p (policy-stands m) allowedRow (bitsIn m .allowed) (allowed-in m) s (λ q h. and-right _ _ (sets-ok q h)) i j (b .allowed i j t) t;
       }
 
-  container-word : (c k : ℕ) → c < containerSlots → k < 9 → wordAt m (containerStart c + k) ≡ containerWord (at (modelIn m .containers) c) k
+  container-word : (c k : ℕ) → c < containerSlots → k < containerWords → wordAt m (containerStart c + k) ≡ containerWord (at (modelIn m .containers) c) k
   container-word c k hc hk =
       container-holds (settingsIn m) m c (container-ok c hc) .1 k hk ∙ ap (λ o. containerWord o k) (sym (container-slot m c hc))
 
-  policy-word : (q k : ℕ) → q < policySlots → k < 11 → wordAt m (policyStart q + k) ≡ policyWord (at (modelIn m .policies) q) k
+  policy-word : (q k : ℕ) → q < policySlots → k < policyWords → wordAt m (policyStart q + k) ≡ policyWord (at (modelIn m .policies) q) k
   policy-word q k hq hk =
       policy-holds (settingsIn m) m q (policy-ok q hq) .1 k hk ∙ ap (λ o. policyWord o k) (sym (policy-slot m q hq))
 
-  settings-word : (k : ℕ) → k < 3 → wordAt m k ≡ settingsWord (modelIn m .settings) k
+  settings-word : (k : ℕ) → k < settingsSize → wordAt m k ≡ settingsWord (modelIn m .settings) k
   unfolding modelIn settingsIn
   settings-word zero h = refl
   settings-word (suc zero) h = refl
@@ -135,18 +131,15 @@ module _ (m : List ℕ) (ok : tests m ≡ true) where
   settings-word (suc (suc (suc k))) h = absurd (omega arith)
 
   entry-word : (k : ℕ) → k < rowsStart → wordAt m k ≡ entryWord (modelIn m) k
-  unfolding entryWord
   entry-word k h =
-      let p = modelIn m in
-      let x = containerWord (at (p .containers) ((k - 3) / 9)) ((k - 3) % 9) in
-      let y = policyWord (at (p .policies) ((k - 2307) / 11)) ((k - 2307) % 11) in
-      by-ltb (λ t. wordAt m k ≡ cond t (settingsWord (p .settings) k) (cond (ltb k 2307) x y)) k 3
+      let c = (k - containersStart) / containerWords in
+      let q = (k - policiesStart) / policyWords in
+      by-part (λ w. wordAt m k ≡ w) (modelIn m) k
       (λ l. settings-word k l)
-      (λ g. by-ltb (λ t. wordAt m k ≡ cond t x y) k 2307
-      (λ l. let e : k ≡ containerStart ((k - 3) / 9) + (k - 3) % 9 = omega arith in
-      ap (λ i. wordAt m i) e ∙ container-word ((k - 3) / 9) ((k - 3) % 9) (omega arith) (omega arith))
-      (λ l. let e : k ≡ policyStart ((k - 2307) / 11) + (k - 2307) % 11 = omega arith in
-      ap (λ i. wordAt m i) e ∙ policy-word ((k - 2307) / 11) ((k - 2307) % 11) (omega arith) (omega arith)))
+      (λ g l. let e : k ≡ containerStart c + (k - containersStart) % containerWords = omega arith in
+      ap (λ i. wordAt m i) e ∙ container-word c ((k - containersStart) % containerWords) (omega arith) (omega arith))
+      (λ l. let e : k ≡ policyStart q + (k - policiesStart) % policyWords = omega arith in
+      ap (λ i. wordAt m i) e ∙ policy-word q ((k - policiesStart) % policyWords) (omega arith) (omega arith))
 
   tests-hold : Whole m → Holds m (contentsOf (registryIn m))
   unfolding contentsOf registryIn
@@ -196,7 +189,7 @@ tests-formed m w fit =
     (λ t. memory-formed m (record {
       whole = w;
       acceptable = tests-acceptable m t;
-      canonical = sym (written (registryIn m) m (tests-hold m t w) fit);
+      canonical = sym (image-written (registryIn m) m (tests-hold m t w) fit);
     }))
     (λ e. tests-pass m e)
 

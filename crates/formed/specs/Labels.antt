@@ -1,4 +1,4 @@
--- The labels that a count and words say. Assumes nothing.
+-- The labels that a count and words say.
 use mathlib.Core.List.{List, map}
 use lib.ListN.{take}
 use Rattle.block.specs.declared.Labels.{Labels}

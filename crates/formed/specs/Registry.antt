@@ -1,4 +1,4 @@
--- What a memory says, the memory that says a registry, and when a memory is well formed. Assumes nothing.
+-- What a memory says, the memory that says a registry, and when a memory is well formed.
 use mathlib.Core.Path.{_≡_}
 use mathlib.Core.Bool.{Bool, true, false, not, _&&_, _||_, cond}
 use mathlib.Core.List.{List, [], _∷_}
@@ -6,7 +6,7 @@ use mathlib.Core.Option.{Option, none, some}
 use Prim.Native.Nat.{ℕ, _-_, _/_, _%_}
 use lib.Dec.{eqb, ltb}
 use lib.ListN.{length}
-use Rattle.block.specs.Entry.{container, policy}
+use Rattle.block.specs.Entry.{Container, Policy, Settings, container, policy}
 use Rattle.block.specs.Written.{validSettings, validEntry}
 use Rattle.model.specs.Table.{all, at, stands, below}
 use Rattle.model.specs.Model.{containerSlots, policySlots, Model, Bits}
@@ -69,21 +69,28 @@ module _ {A : Type 0} where
   freeOr f none = true
   freeOr f (some x) = f x
 
+-- a slot is free, or admit into an empty book under the settings would accept its entry: `validEntry` holds exactly where reading the
+-- block that says the entry gives it back (`block`, Written.valid-exactly)
+abbrev pub validContainer : Settings → Option Container → Bool
+validContainer s = freeOr (λ x. validEntry s (container x))
+
+abbrev pub validPolicy : Settings → Option Policy → Bool
+validPolicy s = freeOr (λ x. validEntry s (policy x))
+
 -- no bit of the first m rows and n columns is set for a slot that does not stand, at either end
 abbrev pub ofStanding : ℕ → ℕ → (ℕ → Bool) → (ℕ → Bool) → (ℕ → ℕ → Bool) → Bool
 ofStanding m n s t f = all (λ i. all (λ j. not (f i j) || (s i && t j)) (below n)) (below m)
 
 -- "settings that open would accept; at each place either an entry of that table's sort that admit into an empty book under those
--- settings would accept, or all zero; no kept bit set for an empty place". Would accept: `validEntry` holds exactly where reading
--- the block that says the entry gives it back (`block`, Written.valid-exactly).
+-- settings would accept, or all zero; no kept bit set for an empty place".
 unfoldable pub acceptable : Registry → Bool
 acceptable r =
     let m = r .model in
     let c = stands (m .containers) in
     let p = stands (m .policies) in
     validSettings (m .settings)
-    && (all (freeOr (λ x. validEntry (m .settings) (container x))) (m .containers)
-    && (all (freeOr (λ x. validEntry (m .settings) (policy x))) (m .policies)
+    && (all (validContainer (m .settings)) (m .containers)
+    && (all (validPolicy (m .settings)) (m .policies)
     && (ofStanding containerSlots containerSlots c c (r .bits .matrix)
     && (ofStanding policySlots containerSlots p c (r .bits .selected)
     && ofStanding policySlots containerSlots p c (r .bits .allowed)))))
@@ -93,8 +100,8 @@ pub record Acceptable (r : Registry) : Type 0 where
   pub containers : length (r .model .containers) ≡ containerSlots
   pub policies : length (r .model .policies) ≡ policySlots
   pub settings : validSettings (r .model .settings) ≡ true
-  pub container : (c : ℕ) → freeOr (λ x. validEntry (r .model .settings) (container x)) (at (r .model .containers) c) ≡ true
-  pub policy : (q : ℕ) → freeOr (λ x. validEntry (r .model .settings) (policy x)) (at (r .model .policies) q) ≡ true
+  pub container : (c : ℕ) → validContainer (r .model .settings) (at (r .model .containers) c) ≡ true
+  pub policy : (q : ℕ) → validPolicy (r .model .settings) (at (r .model .policies) q) ≡ true
   pub matrix : (a b : ℕ) → r .bits .matrix a b ≡ true → (stands (r .model .containers) a && stands (r .model .containers) b) ≡ true
   pub selected : (q c : ℕ) → r .bits .selected q c ≡ true → (stands (r .model .policies) q && stands (r .model .containers) c) ≡ true
   pub allowed : (q c : ℕ) → r .bits .allowed q c ≡ true → (stands (r .model .policies) q && stands (r .model .containers) c) ≡ true

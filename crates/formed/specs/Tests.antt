@@ -1,5 +1,5 @@
--- The test of a memory as the code makes it, word by word and row by row (proofs/TestsFormed.antt: it is `wellFormed`). Assumes nothing.
-use mathlib.Core.Bool.{Bool, true, false, not, _&&_, cond}
+-- The test of a memory as the code makes it, word by word and row by row (proofs/TestsFormed.antt: it is `wellFormed`).
+use mathlib.Core.Bool.{Bool, true, false, _&&_, cond}
 use mathlib.Core.List.{List}
 use Prim.Native.Nat.{ℕ, zero, suc, _+_, _*_, _-_, _/_, _%_}
 use lib.Dec.{eqb, ltb, leb}
@@ -8,7 +8,7 @@ use Rattle.bitrow.specs.Bit.{bitAt}
 use Rattle.bitrow.specs.Set.{nothing, part}
 use Rattle.model.specs.Table.{stands}
 use Rattle.model.specs.Model.{containerSlots, policySlots}
-use Rattle.store.specs.Layout.{wordAt, containerStart, containerWords, policyStart, policyWords, selectedRow, allowedRow, rowAt}
+use Rattle.store.specs.Layout.{wordAt, containerStart, containerWords, policyStart, policyWords, selectOffset, allowOffset, selectedRow, allowedRow, rowAt}
 use Rattle.formed.specs.Words.{settingsIn}
 use Rattle.formed.specs.Registry.{modelIn}
 
@@ -65,7 +65,7 @@ containerOk m c =
 unfoldable pub policyOk : List ℕ → ℕ → Bool
 policyOk m q =
     let s = policyStart q in
-    choose (eqb (wordAt m s) 0) (zeros m s (s + policyWords)) (leb (wordAt m s) 2 and (partOk m (s + 1) 4 and partOk m (s + 6) 4))
+    choose (eqb (wordAt m s) 0) (zeros m s (s + policyWords)) (leb (wordAt m s) 2 and (partOk m (s + selectOffset) 4 and partOk m (s + allowOffset) 4))
 
 unfoldable pub containersOk : List ℕ → Bool
 containersOk m = between (containerOk m) 0 containerSlots

@@ -1,6 +1,6 @@
 -- The words of settings and entries, and what words say. A label is one word. Every list of labels is a part: a header word, one
 -- more than the count, then as many label words as its limit, zero past the count. A container is a part of 8; a policy is its
--- direction's number and two parts of 4; a free slot is all zero. Assumes nothing.
+-- direction's number and two parts of 4; a free slot is all zero.
 use mathlib.Core.Bool.{cond}
 use mathlib.Core.List.{List, [], _∷_, map}
 use mathlib.Core.Option.{Option, none, some}
@@ -11,7 +11,7 @@ use Rattle.block.specs.Entry.{Label, Container, Policy, Settings}
 use Rattle.block.specs.Reader.{directionOf}
 use Rattle.block.specs.Reading.{word}
 use Rattle.block.specs.Written.{directionNumber}
-use Rattle.store.specs.Layout.{wordAt, containerStart, policyStart}
+use Rattle.store.specs.Layout.{selectOffset, allowOffset, containerStart, policyStart, wordAt}
 
 -- ---- from entries to words
 
@@ -59,8 +59,8 @@ containerIn m c = cond (eqb (wordAt m (containerStart c)) 0) none (some (partIn 
 unfoldable pub policyAt : List ℕ → ℕ → Policy
 policyAt m q = record {
   direction = directionOf (wordAt m (policyStart q));
-  select = partIn m (policyStart q + 1);
-  allow = partIn m (policyStart q + 6);
+  select = partIn m (policyStart q + selectOffset);
+  allow = partIn m (policyStart q + allowOffset);
 }
 
 unfoldable pub policyIn : List ℕ → ℕ → Option Policy

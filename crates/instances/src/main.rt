@@ -4,16 +4,10 @@ use libc::STDOUT_FILENO;
 use model::ContainerSlot;
 use model::PolicySlot;
 use registry::Admitted;
-use registry::Audited;
-use registry::Carried;
 use registry::Counted;
-use registry::Opened;
-use registry::Reached;
-use registry::Rebuilt;
-use registry::Removed;
-use shape::Shape;
-
-mod shape;
+use registry::Outcome;
+use registry::Reply;
+use samples::Shape;
 
 fn line(case: u64, refusal: u64, value: u64) {
     io::print_decimal(STDOUT_FILENO, case);
@@ -28,35 +22,35 @@ fn yes_or_no(says: bool) -> u64 {
     if says { 1 } else { 0 }
 }
 
-fn show_opened(case: u64, answer: Opened) {
+fn show_opened(case: u64, answer: Outcome) {
     match answer {
-        Opened::Refused(why) => line(case, registry::number(why), 0),
-        Opened::Done => line(case, 0, 0),
+        Outcome::Refused(why) => line(case, why as u64, 0),
+        Outcome::Done => line(case, 0, 0),
     }
 }
 
 fn show_admitted(case: u64, answer: Admitted) {
     match answer {
-        Admitted::Refused(why) => line(case, registry::number(why), 0),
+        Admitted::Refused(why) => line(case, why as u64, 0),
         Admitted::Container(slot) => line(case, 0, slot.0 as u64),
         Admitted::Policy(slot) => line(case, 0, slot.0 as u64),
     }
 }
 
-fn show_removed(case: u64, answer: Removed) {
+fn show_removed(case: u64, answer: Outcome) {
     match answer {
-        Removed::Refused(why) => line(case, registry::number(why), 0),
-        Removed::Done => line(case, 0, 0),
+        Outcome::Refused(why) => line(case, why as u64, 0),
+        Outcome::Done => line(case, 0, 0),
     }
 }
 
 fn open(memory: &mut [u64], case: u64, made: Shape) {
-    let block = shape::sealed(made);
+    let block = samples::sealed(made);
     show_opened(case, registry::open(memory, &block));
 }
 
 fn admit(memory: &mut [u64], case: u64, made: Shape) {
-    let block = shape::sealed(made);
+    let block = samples::sealed(made);
     show_admitted(case, registry::admit(memory, &block));
 }
 
@@ -73,22 +67,22 @@ fn remove_policy(memory: &mut [u64], case: u64, slot: usize) {
 
 fn reaches(memory: &[u64], case: u64, a: usize, b: usize) {
     match registry::reaches(memory, ContainerSlot(a), ContainerSlot(b)) {
-        Reached::Refused(why) => line(case, registry::number(why), 0),
-        Reached::Says(says) => line(case, 0, yes_or_no(says)),
+        Reply::Refused(why) => line(case, why as u64, 0),
+        Reply::Says(says) => line(case, 0, yes_or_no(says)),
     }
 }
 
 fn carries_user(memory: &[u64], case: u64, slot: usize, value: u64) {
     match registry::carries_user(memory, ContainerSlot(slot), value) {
-        Carried::Refused(why) => line(case, registry::number(why), 0),
-        Carried::Says(says) => line(case, 0, yes_or_no(says)),
+        Reply::Refused(why) => line(case, why as u64, 0),
+        Reply::Says(says) => line(case, 0, yes_or_no(says)),
     }
 }
 
 // The counts, a line for each.
 fn count(memory: &[u64], case: u64) {
     match registry::counts(memory) {
-        Counted::Refused(why) => line(case, registry::number(why), 0),
+        Counted::Refused(why) => line(case, why as u64, 0),
         Counted::Counts(containers, policies, pairs) => {
             line(case, 0, containers);
             line(case, 0, policies);
@@ -99,51 +93,51 @@ fn count(memory: &[u64], case: u64) {
 
 fn audit(memory: &[u64], case: u64) {
     match registry::audit(memory) {
-        Audited::Refused(why) => line(case, registry::number(why), 0),
-        Audited::Says(says) => line(case, 0, yes_or_no(says)),
+        Reply::Refused(why) => line(case, why as u64, 0),
+        Reply::Says(says) => line(case, 0, yes_or_no(says)),
     }
 }
 
 fn rebuild(memory: &mut [u64], case: u64) {
     match registry::rebuild(memory) {
-        Rebuilt::Refused(why) => line(case, registry::number(why), 0),
-        Rebuilt::Done => line(case, 0, 0),
+        Outcome::Refused(why) => line(case, why as u64, 0),
+        Outcome::Done => line(case, 0, 0),
     }
 }
 
 fn open_other_size(case: u64) {
     let mut memory = [0u64; 5762];
-    open(&mut memory, case, shape::settings(1, 2));
+    open(&mut memory, case, samples::settings(1, 2));
 }
 
 fn open_short(memory: &mut [u64], case: u64) {
-    let block = shape::sealed(shape::settings(1, 2));
+    let block = samples::sealed(samples::settings(1, 2));
     show_opened(case, registry::open(memory, &block[1..]));
 }
 
 // Settings: each refusal that their blocks meet, and what stands at the limits.
 fn settings_case(case: u64) -> Shape {
     match case {
-        4 => shape::spoiled(shape::settings(1, 2)),
-        5 => shape::container(1, 1),
-        6 => shape::settings(0, 2),
-        7 => shape::settings(64, 2),
-        8 => shape::settings(65, 2),
-        9 => shape::settings(1, 64),
-        10 => shape::settings(1, 65),
-        11 => shape::settings(1, 0),
-        12 => shape::with(shape::settings(1, 0), 5, 0),
-        13 => shape::with(shape::settings(1, 0), 3, 1),
-        14 => shape::with(shape::settings(1, 2), 5, 0),
-        15 => shape::with(shape::settings(1, 0), 509, 1),
-        _ => shape::settings(1, 2),
+        4 => samples::spoiled(samples::settings(1, 2)),
+        5 => samples::container(1, 1),
+        6 => samples::settings(0, 2),
+        7 => samples::settings(64, 2),
+        8 => samples::settings(65, 2),
+        9 => samples::settings(1, 64),
+        10 => samples::settings(1, 65),
+        11 => samples::settings(1, 0),
+        12 => samples::with(samples::settings(1, 0), 5, 0),
+        13 => samples::with(samples::settings(1, 0), 3, 1),
+        14 => samples::with(samples::settings(1, 2), 5, 0),
+        15 => samples::with(samples::settings(1, 0), 509, 1),
+        _ => samples::settings(1, 2),
     }
 }
 
-fn opening(memory: &mut [u64], case: u64) {
+fn run_opening(memory: &mut [u64], case: u64) {
     match case {
         1 => open_other_size(case),
-        2 => admit(memory, case, shape::container(1, 1)),
+        2 => admit(memory, case, samples::container(1, 1)),
         3 => open_short(memory, case),
         _ => open(memory, case, settings_case(case)),
     }
@@ -152,40 +146,40 @@ fn opening(memory: &mut [u64], case: u64) {
 // Containers: each refusal that their blocks meet, and what stands at the limits.
 fn container_case(case: u64) -> Shape {
     match case {
-        17 => shape::settings(1, 2),
-        18 => shape::container(8, 1),
-        19 => shape::container(9, 1),
-        20 => shape::container(1, 64),
-        21 => shape::container(1, 65),
-        22 => shape::container(0, 0),
-        23 => shape::container(1, 0),
-        24 => shape::with(shape::container(1, 1), 7, 0),
-        25 => shape::with(shape::container(2, 3), 9, 3),
-        26 => shape::with(shape::container(2, 3), 12, 1),
-        27 => shape::with(shape::container(2, 3), 2, 1),
-        28 => shape::with(shape::container(2, 3), 509, 1),
-        _ => shape::spoiled(shape::container(2, 3)),
+        17 => samples::settings(1, 2),
+        18 => samples::container(8, 1),
+        19 => samples::container(9, 1),
+        20 => samples::container(1, 64),
+        21 => samples::container(1, 65),
+        22 => samples::container(0, 0),
+        23 => samples::container(1, 0),
+        24 => samples::with(samples::container(1, 1), 7, 0),
+        25 => samples::with(samples::container(2, 3), 9, 3),
+        26 => samples::with(samples::container(2, 3), 12, 1),
+        27 => samples::with(samples::container(2, 3), 2, 1),
+        28 => samples::with(samples::container(2, 3), 509, 1),
+        _ => samples::spoiled(samples::container(2, 3)),
     }
 }
 
 // The same of policies.
 fn policy_case(case: u64) -> Shape {
     match case {
-        30 => shape::policy(1, 4, 0, 1),
-        31 => shape::policy(2, 5, 0, 1),
-        32 => shape::policy(2, 0, 5, 1),
-        33 => shape::policy(3, 1, 0, 1),
-        34 => shape::policy(0, 1, 0, 1),
-        35 => shape::policy(2, 1, 0, 64),
-        36 => shape::policy(2, 1, 0, 65),
-        37 => shape::with(shape::policy(2, 2, 0, 3), 9, 3),
-        38 => shape::with(shape::policy(2, 2, 0, 3), 12, 1),
-        _ => shape::policy(2, 4, 4, 1),
+        30 => samples::policy(1, 4, 0, 1),
+        31 => samples::policy(2, 5, 0, 1),
+        32 => samples::policy(2, 0, 5, 1),
+        33 => samples::policy(3, 1, 0, 1),
+        34 => samples::policy(0, 1, 0, 1),
+        35 => samples::policy(2, 1, 0, 64),
+        36 => samples::policy(2, 1, 0, 65),
+        37 => samples::with(samples::policy(2, 2, 0, 3), 9, 3),
+        38 => samples::with(samples::policy(2, 2, 0, 3), 12, 1),
+        _ => samples::policy(2, 4, 4, 1),
     }
 }
 
 // Slots asked about: free ones, and ones beyond their table.
-fn asking(memory: &[u64], case: u64) {
+fn run_asking(memory: &[u64], case: u64) {
     match case {
         40 => reaches(memory, case, 0, 255),
         41 => reaches(memory, case, 255, 256),
@@ -202,7 +196,7 @@ fn asking(memory: &[u64], case: u64) {
 }
 
 // Slots freed: free ones, ones beyond their table, and a freed one used again.
-fn freeing(memory: &mut [u64], case: u64) {
+fn run_freeing(memory: &mut [u64], case: u64) {
     match case {
         51 => remove_container(memory, case, 255),
         52 => remove_container(memory, case, 256),
@@ -210,7 +204,7 @@ fn freeing(memory: &mut [u64], case: u64) {
         54 => remove_policy(memory, case, 128),
         55 | 56 => remove_container(memory, case, 1),
         57 | 58 => remove_policy(memory, case, 2),
-        59 => admit(memory, case, shape::container(1, 1)),
+        59 => admit(memory, case, samples::container(1, 1)),
         61 => rebuild(memory, case),
         62 => audit(memory, case),
         _ => count(memory, case),
@@ -219,7 +213,7 @@ fn freeing(memory: &mut [u64], case: u64) {
 
 // Admits the block of a shape so many times, with no line.
 fn repeat(memory: &mut [u64], made: Shape, times: u64) {
-    let block = shape::sealed(made);
+    let block = samples::sealed(made);
     let mut left = times;
     while left > 0 {
         registry::admit(memory, &block);
@@ -228,17 +222,17 @@ fn repeat(memory: &mut [u64], made: Shape, times: u64) {
 }
 
 // Full tables: the 257th container and the 129th policy, and freed slots used again.
-fn filling(memory: &mut [u64], case: u64) {
+fn run_filling(memory: &mut [u64], case: u64) {
     match case {
-        64 => open(memory, case, shape::settings(1, 2)),
-        65 => repeat(memory, shape::container(2, 1), 255),
-        66 | 67 => admit(memory, case, shape::container(2, 1)),
+        64 => open(memory, case, samples::settings(1, 2)),
+        65 => repeat(memory, samples::container(2, 1), 255),
+        66 | 67 => admit(memory, case, samples::container(2, 1)),
         68 => remove_container(memory, case, 100),
-        69 | 70 => admit(memory, case, shape::container(1, 1)),
-        71 => repeat(memory, shape::policy(1, 0, 1, 2), 127),
-        72 | 73 => admit(memory, case, shape::policy(2, 1, 1, 1)),
+        69 | 70 => admit(memory, case, samples::container(1, 1)),
+        71 => repeat(memory, samples::policy(1, 0, 1, 2), 127),
+        72 | 73 => admit(memory, case, samples::policy(2, 1, 1, 1)),
         74 => remove_policy(memory, case, 127),
-        76 => admit(memory, case, shape::policy(2, 1, 1, 1)),
+        76 => admit(memory, case, samples::policy(2, 1, 1, 1)),
         77 => audit(memory, case),
         _ => count(memory, case),
     }
@@ -246,17 +240,17 @@ fn filling(memory: &mut [u64], case: u64) {
 
 fn run(memory: &mut [u64], case: u64) {
     if case < 17 {
-        opening(memory, case);
+        run_opening(memory, case);
     } else if case < 30 {
         admit(memory, case, container_case(case));
     } else if case < 40 {
         admit(memory, case, policy_case(case));
     } else if case < 51 {
-        asking(memory, case);
+        run_asking(memory, case);
     } else if case < 64 {
-        freeing(memory, case);
+        run_freeing(memory, case);
     } else {
-        filling(memory, case);
+        run_filling(memory, case);
     }
 }
 

@@ -6,8 +6,6 @@ ghost use Prim.Native.Nat.{_≤_, _<_};
 ghost use lib.ListN.{length};
 ghost use Rattle.store.specs.Layout.{memoryWords};
 
-mod streams;
-
 // Where the word goes that says that the whole sheet was written.
 const WHOLE_FILENO: i32 = 3;
 

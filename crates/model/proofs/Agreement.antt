@@ -1,4 +1,4 @@
--- On computed bits the registry's step is the model's, and so for every list of calls. Assumes nothing.
+-- On computed bits each call's checks, changes and answers come out as the model's own; over a list of calls by induction.
 use mathlib.Core.Path.{_≡_, refl, ap, _∙_}
 use mathlib.Core.Bool.{Bool, true, false, _&&_, _||_, cond}
 use mathlib.Core.Logic.{_↔_}
@@ -12,20 +12,24 @@ use borrow.Author.Tests.{ltb-true}
 use Rattle.block.specs.declared.Fault.{Fault}
 use Rattle.block.specs.declared.Fault.the-variants.{Nowhere, At}
 use Rattle.block.specs.Entry.{Container, Policy, Settings, Entry, container, policy}
-use Rattle.block.specs.Refusal.{Refusal, Check, check, refuse, firstRefusal, Read, refused, accepted}
-use Rattle.block.specs.Refusal.{unlessRefused as readUnless}
-use Rattle.block.specs.Reader.{settingsChecks, entryChecks, settingsIn, entryIn, readSettings, readEntry}
+use Rattle.block.specs.declared.Tested.{Tested}
+use Rattle.block.specs.declared.Tested.the-variants.{Passed, Refused}
+use Rattle.block.specs.Refusal.{Check, check, refuse, firstRefusal, accepted}
+use Rattle.block.specs.Refusal.{readUnless}
+use Rattle.block.specs.Reader.{settingsChecks, entryChecks, settingsSaid, entrySaid, readSettings, readEntry}
 use Rattle.model.specs.Table.{Table, on, isFree, at, free, lowestFree}
 use Rattle.model.specs.Rules.{carries}
 use Rattle.model.specs.Model.{containerSlots, policySlots, Model, empty, withContainer, withPolicy, computedBits}
-use Rattle.model.specs.Calls.{Call, openWith, admit, removeContainer, removePolicy, askReaches, askUser, nextFinding, listFindings, counts, rebuild, audit}
+use Rattle.model.specs.Calls.{askReaches, askUser, nextFinding, listFindings, counts, audit}
+use Rattle.model.specs.Calls.{Call, openWith, change, admit, removeContainer, removePolicy, rebuild, ask}
 use Rattle.model.specs.Calls.{refusal, done, containerAt, policyAt, says, run}
-use Rattle.model.specs.ModelStep.{opening, placing, placingPolicy, admitting, removing, removingPolicy, asking, askingUser, modelStep}
+use Rattle.model.specs.ModelStep.{opening, placing, placingPolicy, admitting, removing, removingPolicy, asking, askingUser, modelAnswer, modelStep}
 use Rattle.model.specs.Registry.{Registry, computed, consistent, FollowsRules, changeContainer, rebuilt}
 use Rattle.model.specs.Refusals.{where0, slotChecks, pairChecks, noRoom, refusals}
-use Rattle.model.specs.RegistryStep.{admitContainer, admitPolicy, admitEntry, takePolicy, acceptedStep, unlessRefused, registryStep}
+use Rattle.model.specs.RegistryStep.{admitContainer, admitPolicy, admitEntry, takePolicy, answerTo, acceptedStep, unlessRefused, registryStep}
 use Rattle.model.proofs.Tables.{at-lowest, full-lowest, free-at, beyond-ltb}
 use Rattle.model.proofs.Unchanged.{container-changed, policy-admitted, policy-removed, opened-computed}
+use Rattle.model.proofs.Kept.{Kept, step-keeps}
 use Rattle.model.proofs.Consistent.{consistent-exactly, computed-consistent}
 
 -- the two tables have their numbers of slots
@@ -40,9 +44,9 @@ asComputed r = (computed (r .0), r .1)
 -- ---- lists of checks
 
 -- the first refusal if there is one, else the second
-unfoldable pub orRefusal : Option Refusal → Option Refusal → Option Refusal
-orRefusal none rest = rest
-orRefusal (some f) rest = some f
+unfoldable pub orRefusal : Tested → Tested → Tested
+orRefusal Passed rest = rest
+orRefusal (Refused f) rest = Refused f
 
 pub first-append : (cs ds : List Check) → firstRefusal (cs ++ ds) ≡ orRefusal (firstRefusal cs) (firstRefusal ds)
 unfolding orRefusal
@@ -89,11 +93,11 @@ module _ {A : Type 0} (r : Registry) (call : Call) (size : ℕ) (t : Table A) (w
 -- ---- each call
 
 module _ (m : Model) (sized : Sized m) where
-  open-agrees : (b : List ℕ) (o : Option Refusal)
-      → unlessRefused (computed m) (openWith b) o ≡ asComputed (opening m (readUnless o (settingsIn b)))
+  open-agrees : (b : List ℕ) (o : Tested)
+      → unlessRefused (computed m) (openWith b) o ≡ asComputed (opening m (readUnless o (settingsSaid b)))
   unfolding unlessRefused acceptedStep opening
-  open-agrees b none = ap (λ r. (r, done)) (opened-computed (settingsIn b))
-  open-agrees b (some f) = refl
+  open-agrees b Passed = ap (λ r. (r, done)) (opened-computed (settingsSaid b))
+  open-agrees b (Refused f) = refl
 
   -- no room: the search finds no slot
   admit-container : (x : Container) (o : Option ℕ) → lowestFree (m .containers) ≡ o
@@ -113,17 +117,17 @@ module _ (m : Model) (sized : Sized m) where
   admit-entry (container x) = rw (← full-lowest (m .containers)) (admit-container x (lowestFree (m .containers)) refl)
   admit-entry (policy p) = rw (← full-lowest (m .policies)) (admit-policy p (lowestFree (m .policies)) refl)
 
-  admit-agrees : (b : List ℕ) (o : Option Refusal)
-      → unlessRefused (computed m) (admit b) (orRefusal o (firstRefusal (check 12 (where0 (noRoom m (entryIn b))) ∷ [])))
-      ≡ asComputed (admitting m (readUnless o (entryIn b)))
+  admit-agrees : (b : List ℕ) (o : Tested)
+      → unlessRefused (computed m) (change (admit b)) (orRefusal o (firstRefusal (check 12 (where0 (noRoom m (entrySaid b))) ∷ [])))
+      ≡ asComputed (admitting m (readUnless o (entrySaid b)))
   unfolding unlessRefused acceptedStep orRefusal admitting
-  admit-agrees b none = pick (noRoom m (entryIn b)) ∙ admit-entry (entryIn b)
+  admit-agrees b Passed = pick (noRoom m (entrySaid b)) ∙ admit-entry (entrySaid b)
     where
-      pick : (u : Bool) → unlessRefused (computed m) (admit b) (firstRefusal (check 12 (where0 u) ∷ []))
-          ≡ cond u (computed m, refusal 12) (admitEntry (computed m) (entryIn b))
+      pick : (u : Bool) → unlessRefused (computed m) (change (admit b)) (firstRefusal (check 12 (where0 u) ∷ []))
+          ≡ cond u (computed m, refusal 12) (admitEntry (computed m) (entrySaid b))
       pick true = refl
       pick false = refl
-  admit-agrees b (some f) = refl
+  admit-agrees b (Refused f) = refl
 
   remove-agrees : (c : ℕ) (u : Bool) (x : Option Container)
       → cond u (cond (isFree x) (computed m, refusal 11) (changeContainer (computed m) c none, done)) (computed m, refusal 10)
@@ -160,28 +164,28 @@ module _ (m : Model) (sized : Sized m) where
 
   -- One call: the registry of computed bits is refused, answers and changes as the model.
   pub step-agrees : (call : Call) → registryStep (computed m) call ≡ asComputed (modelStep m call)
-  unfolding modelStep registryStep refusals computed acceptedStep unlessRefused rebuilt readSettings readEntry
+  unfolding modelStep modelAnswer registryStep refusals computed acceptedStep answerTo unlessRefused rebuilt readSettings readEntry
   step-agrees (openWith b) = open-agrees b (firstRefusal (settingsChecks b))
-  step-agrees (admit b) =
-      ap (unlessRefused (computed m) (admit b)) (first-append (entryChecks (m .settings) b) (check 12 (where0 (noRoom m (entryIn b))) ∷ []))
+  step-agrees (change (admit b)) =
+      ap (unlessRefused (computed m) (change (admit b))) (first-append (entryChecks (m .settings) b) (check 12 (where0 (noRoom m (entrySaid b))) ∷ []))
       ∙ admit-agrees b (firstRefusal (entryChecks (m .settings) b))
-  step-agrees (removeContainer c) =
-      slot-step (computed m) (removeContainer c) containerSlots (m .containers) (sized .containers) c refl
+  step-agrees (change (removeContainer c)) =
+      slot-step (computed m) (change (removeContainer c)) containerSlots (m .containers) (sized .containers) c refl
       ∙ remove-agrees c (ltb c containerSlots) (at (m .containers) c)
-  step-agrees (removePolicy q) =
-      slot-step (computed m) (removePolicy q) policySlots (m .policies) (sized .policies) q refl
+  step-agrees (change (removePolicy q)) =
+      slot-step (computed m) (change (removePolicy q)) policySlots (m .policies) (sized .policies) q refl
       ∙ remove-policy-agrees q (ltb q policySlots) (at (m .policies) q) refl
-  step-agrees (askReaches a b) =
-      pair-step (computed m) (askReaches a b) containerSlots (m .containers) (sized .containers) a b refl
+  step-agrees (change rebuild) = refl
+  step-agrees (ask (askReaches a b)) =
+      pair-step (computed m) (ask (askReaches a b)) containerSlots (m .containers) (sized .containers) a b refl
       ∙ ask-agrees a b (ltb a containerSlots && ltb b containerSlots) (at (m .containers) a) (at (m .containers) b)
-  step-agrees (askUser c v) =
-      slot-step (computed m) (askUser c v) containerSlots (m .containers) (sized .containers) c refl
+  step-agrees (ask (askUser c v)) =
+      slot-step (computed m) (ask (askUser c v)) containerSlots (m .containers) (sized .containers) c refl
       ∙ ask-user-agrees v (ltb c containerSlots) (at (m .containers) c)
-  step-agrees (nextFinding c) = refl
-  step-agrees (listFindings c n) = refl
-  step-agrees counts = refl
-  step-agrees rebuild = refl
-  step-agrees audit = ap (λ t. (computed m, says t)) (computed-consistent m)
+  step-agrees (ask (nextFinding c)) = refl
+  step-agrees (ask (listFindings c n)) = refl
+  step-agrees (ask counts) = refl
+  step-agrees (ask audit) = ap (λ t. (computed m, says t)) (computed-consistent m)
 
 -- ---- every call leaves the tables their sizes
 
@@ -192,53 +196,18 @@ sized-empty s = record {
   policies = length-replicate {A = Option Policy} policySlots none;
 }
 
-module _ (m : Model) (sized : Sized m) where
-  sized-container : (c : ℕ) (x : Option Container) → Sized (withContainer m c x)
-  unfolding withContainer
-  sized-container c x = record { containers = length-set (m .containers) c x ∙ sized .containers; policies = sized .policies }
+sized-kept : Kept Sized
+unfolding withContainer withPolicy
+sized-kept = record {
+  opened = λ b s e. sized-empty s;
+  container = λ m g b x e c. record { containers = length-set (m .containers) c (some x) ∙ g .containers; policies = g .policies };
+  policy = λ m g b x e q. record { containers = g .containers; policies = length-set (m .policies) q (some x) ∙ g .policies };
+  containerGone = λ m g c. record { containers = length-set (m .containers) c none ∙ g .containers; policies = g .policies };
+  policyGone = λ m g q. record { containers = g .containers; policies = length-set (m .policies) q none ∙ g .policies };
+}
 
-  sized-policy : (q : ℕ) (x : Option Policy) → Sized (withPolicy m q x)
-  unfolding withPolicy
-  sized-policy q x = record { containers = sized .containers; policies = length-set (m .policies) q x ∙ sized .policies }
-
-  sized-open : (o : Read Settings) → Sized (opening m o .0)
-  unfolding opening
-  sized-open (refused f) = sized
-  sized-open (accepted s) = sized-empty s
-
-  sized-admit : (o : Read Entry) (c q : Option ℕ) → lowestFree (m .containers) ≡ c → lowestFree (m .policies) ≡ q → Sized (admitting m o .0)
-  unfolding admitting placing placingPolicy
-  sized-admit (refused f) c q h k = sized
-  sized-admit (accepted (container x)) none q h k = rw h sized
-  sized-admit (accepted (container x)) (some c) q h k = rw h (sized-container c (some x))
-  sized-admit (accepted (policy p)) c none h k = rw k sized
-  sized-admit (accepted (policy p)) c (some q) h k = rw k (sized-policy q (some p))
-
-  sized-remove : (c : ℕ) (u : Bool) (x : Option Container) → Sized ((cond u (removing m c x) (m, refusal 10)) .0)
-  unfolding removing
-  sized-remove c false x = sized
-  sized-remove c true none = sized
-  sized-remove c true (some x) = sized-container c none
-
-  sized-remove-policy : (q : ℕ) (u : Bool) (x : Option Policy) → Sized ((cond u (removingPolicy m q x) (m, refusal 10)) .0)
-  unfolding removingPolicy
-  sized-remove-policy q false x = sized
-  sized-remove-policy q true none = sized
-  sized-remove-policy q true (some p) = sized-policy q none
-
-  pub sized-step : (call : Call) → Sized (modelStep m call .0)
-  unfolding modelStep
-  sized-step (openWith b) = sized-open (readSettings b)
-  sized-step (admit b) = sized-admit (readEntry (m .settings) b) (lowestFree (m .containers)) (lowestFree (m .policies)) refl refl
-  sized-step (removeContainer c) = sized-remove c (ltb c containerSlots) (at (m .containers) c)
-  sized-step (removePolicy q) = sized-remove-policy q (ltb q policySlots) (at (m .policies) q)
-  sized-step (askReaches a b) = sized
-  sized-step (askUser c v) = sized
-  sized-step (nextFinding c) = sized
-  sized-step (listFindings c n) = sized
-  sized-step counts = sized
-  sized-step rebuild = sized
-  sized-step audit = sized
+pub sized-step : (m : Model) → Sized m → (call : Call) → Sized (modelStep m call .0)
+sized-step m sized call = step-keeps sized-kept m sized call
 
 -- Every list of calls: the same refusals, the same answers, the same entries, and bits by the rules.
 pub run-agrees : (m : Model) → Sized m → (calls : List Call) → run registryStep (computed m) calls ≡ asComputed (run modelStep m calls)
@@ -251,9 +220,9 @@ pub accepted-open : (r : Registry) (b : List ℕ) (s : Settings) → readSetting
 unfolding registryStep refusals readSettings acceptedStep unlessRefused
 accepted-open r b s = pick (firstRefusal (settingsChecks b))
   where
-    pick : (o : Option Refusal) → readUnless o (settingsIn b) ≡ accepted s → unlessRefused r (openWith b) o ≡ (computed (empty s), done)
-    pick none e = let h : settingsIn b ≡ s = cc in rw h (ap (λ v. (v, done)) (opened-computed s))
-    pick (some f) e = let z : _≡_ {A = ℕ} 0 1 = cc in absurd (omega arith)
+    pick : (o : Tested) → readUnless o (settingsSaid b) ≡ accepted s → unlessRefused r (openWith b) o ≡ (computed (empty s), done)
+    pick Passed e = let h : settingsSaid b ≡ s = cc in rw h (ap (λ v. (v, done)) (opened-computed s))
+    pick (Refused f) e = let z : _≡_ {A = ℕ} 0 1 = cc in absurd (omega arith)
 
 -- The same from an accepted open, on any registry.
 pub opened-agrees : (r : Registry) (b : List ℕ) (s : Settings) → readSettings b ≡ accepted s → (calls : List Call)
@@ -264,6 +233,6 @@ says-same : (t u : Bool) → says t ≡ says u → t ≡ u
 says-same t u e = cc
 
 -- Audit says yes exactly if every stored bit equals the rules.
-pub audit-exactly : (r : Registry) → (registryStep r audit .1 ≡ says true) ↔ FollowsRules r
-unfolding registryStep refusals unlessRefused acceptedStep
+pub audit-exactly : (r : Registry) → (registryStep r (ask audit) .1 ≡ says true) ↔ FollowsRules r
+unfolding registryStep refusals unlessRefused acceptedStep answerTo
 audit-exactly r = (λ e. consistent-exactly r .0 (says-same (consistent r) true e), λ h. ap says (consistent-exactly r .1 h))

@@ -1,4 +1,4 @@
--- The test of consistency says true exactly if every stored bit equals the rules. Assumes nothing.
+-- A test over all numbers below n holds exactly if it holds of each: so audit's test says that every stored bit equals the rules.
 use mathlib.Core.Path.{_≡_, refl, sym, ap, ap₂, _∙_}
 use mathlib.Core.Bool.{Bool, true, false, _&&_, Bool·beq, and-eq-true-iff}
 use mathlib.Core.Logic.{_↔_}
@@ -34,10 +34,10 @@ up-all f (suc n) i zero e h = ap f (omega arith) ∙ and-eq-true-iff (f i) (all 
 up-all f (suc n) i (suc k) e h =
     ap f (omega arith) ∙ up-all f n (suc i) k (and-eq-true-iff (f i) (all f (upFrom (suc i) n)) .0 e .1) (omega arith)
 
-all-below : (f : ℕ → Bool) (n : ℕ) → ((k : ℕ) → k < n → f k ≡ true) → all f (below n) ≡ true
+pub all-below : (f : ℕ → Bool) (n : ℕ) → ((k : ℕ) → k < n → f k ≡ true) → all f (below n) ≡ true
 all-below f n h = all-up f n 0 (λ k l. ap f (zero-add k) ∙ h k l)
 
-below-all : (f : ℕ → Bool) (n k : ℕ) → all f (below n) ≡ true → k < n → f k ≡ true
+pub below-all : (f : ℕ → Bool) (n k : ℕ) → all f (below n) ≡ true → k < n → f k ≡ true
 below-all f n k e h = ap f (sym (zero-add k)) ∙ up-all f n 0 k e h
 
 module _ (m n : ℕ) (f g : ℕ → ℕ → Bool) where

@@ -1,11 +1,13 @@
 -- The theorems that hold of the definitions alone.
 pub mod Lists
 pub mod Tables
+pub mod Lowest
 pub mod Findings
 pub mod Next
 pub mod Pairs
 pub mod Consistent
 pub mod Unchanged
+pub mod Kept
 pub mod Agreement
 pub mod Refused
 pub mod Stars

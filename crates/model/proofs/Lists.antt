@@ -1,4 +1,4 @@
--- Laws of tests, lists and standing slots that the files beside this one share. Assumes nothing.
+-- Laws of tests, lists and standing slots that the files beside this one share.
 use mathlib.Core.Path.{_≡_, refl, ap, _∙_}
 use mathlib.Core.Bool.{Bool, true, false, _&&_, _||_, cond, or-true, or-assoc}
 use mathlib.Core.List.{List, [], _∷_, _++_}
@@ -7,8 +7,9 @@ use Prim.Native.Nat.{ℕ, zero, suc, _+_, _≤_, _<_}
 use native.Mathlib.Nat.{le-refl, zero-add}
 use native.Mathlib.Omega.{arith}
 use lib.Dec.{eqb}
+use lib.ListN.{length}
 use borrow.Author.Tests.{eq-eqb, ne-eqb}
-use Rattle.model.specs.Table.{Table, any, stands, standing, standingFrom}
+use Rattle.model.specs.Table.{Table, any, stands, standing, standingFrom, upFrom}
 
 pub either : {P : Type 0} (a b : Bool) → (a ≡ true → P) → (b ≡ true → P) → (a || b) ≡ true → P
 either true b f g h = f refl
@@ -106,3 +107,7 @@ module _ {A : Type 0} where
 
   pub elem-standing : (x : ℕ) (t : Table A) → elem x (standing t) ≡ stands t x
   elem-standing x t = rw zero-add at (from-elem 0 x t)
+
+pub length-up : (i n : ℕ) → length (upFrom i n) ≡ n
+length-up i zero = refl
+length-up i (suc n) = ap suc (length-up (suc i) n)

@@ -1,4 +1,4 @@
--- PAIRS is the count over the standing slots, where no free slot has a bit. Assumes nothing.
+-- PAIRS is the count over the standing slots, where no free slot has a bit.
 use mathlib.Core.Path.{_≡_, refl, sym, ap, fun-ext, _∙_}
 use mathlib.Core.Bool.{Bool, false, cond}
 use mathlib.Core.List.{List, [], _∷_}

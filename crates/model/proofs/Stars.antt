@@ -1,4 +1,4 @@
--- The starred instances hold: a test that computes, and that it tells what is claimed. Assumes nothing.
+-- The starred instances hold: a test that computes, and that it tells what is claimed.
 use mathlib.Core.Path.{_≡_, refl, _∙_}
 use mathlib.Core.Bool.{Bool, true, false, not, _&&_, and-eq-true-iff}
 use mathlib.Core.List.{List, [], _∷_}
@@ -18,13 +18,13 @@ use Rattle.model.specs.Findings.{containersOf, findings, pairsIn}
 use Rattle.model.specs.Registry
 use Rattle.model.specs.Registry.{changePolicy}
 use Rattle.model.proofs.Pairs.{pairs-computed}
-use Rattle.model.specs.Stars.{sameFindings, sameRows, lists, refusedWith, columnIs, filled, noSystem}
-use Rattle.model.specs.Stars.{Instance, hasChecksum, isRefused, hasFindings, hasMatrix, listsFirst, leavesColumn, Holds, AllHold, stars}
+use Rattle.model.specs.Stars.{sameFindings, sameRows, lists, refusedAt, columnIs, filled, noSystem}
+use Rattle.model.specs.Stars.{Instance, hasChecksum, isRefused, hasFindings, hasMatrix, listsFirst, leavesColumn, Claim, AllHold, stars}
 
 -- the test of an instance; PAIRS is counted over the standing slots
 test : Instance → Bool
 test (hasChecksum l n) = eqb (checksum (sealed l)) n
-test (isRefused l n p) = refusedWith n p (Reader.readEntry noSystem (sealed l))
+test (isRefused l n p) = refusedAt n p (Reader.readEntry noSystem (sealed l))
 test (hasFindings m l) = sameFindings (findings m (computedBits m)) l
 test (hasMatrix m rows n) =
     sameRows m (containersOf m) rows
@@ -32,8 +32,8 @@ test (hasMatrix m rows n) =
 test (listsFirst m f g) = lists (findings m (computedBits m)) f && not (lists (findings m (computedBits m)) g)
 test (leavesColumn m p b l) = all (λ t. columnIs (changePolicy (filled m t) 0 p (some p)) t b l) (true ∷ false ∷ [])
 
-sound : (i : Instance) → test i ≡ true → Holds i
-unfolding test Holds
+sound : (i : Instance) → test i ≡ true → Claim i
+unfolding test Claim
 sound (hasChecksum l n) e = eqb-true _ n e
 sound (isRefused l n p) e = e
 sound (hasFindings m l) e = e
@@ -51,10 +51,10 @@ all-sound (i ∷ l) e = let h = and-eq-true-iff (test i) (all test l) .0 e in (s
 
 passes : all test stars ≡ true
 unfolding test stars
-    sealed checksum weighted Reader.readEntry Reader.entryChecks Reader.entryIn Reader.policyIn Reader.directionOf Reader.layoutOf
+    sealed checksum weighted Reader.readEntry Reader.entryChecks Reader.entrySaid Reader.policySaid Reader.directionOf Reader.layoutOf
     Reader.containerLayout Reader.policyLayout Reader.zeroFault Reader.labelAt Reader.orderFault Reader.riseFault Reader.rangeFault
     Reader.labelFault Reader.within
-    Rules.reaches Rules.lets Rules.someAllows Rules.someSelects Rules.sameDirection Rules.allows Rules.selects Rules.matches Rules.carries Rules.sameLabel
+    Rules.reaches Rules.permits Rules.someAllows Rules.someSelects Rules.sameDirection Rules.allows Rules.selects Rules.matches Rules.carries Rules.sameLabel
     Model.withPolicy Model.computedBits Model.matrixBit Model.selectedBit Model.allowedBit
     Findings.findings Findings.kinds Findings.irrelevance Findings.needless Findings.conflict Findings.shadow Findings.among Findings.connected
     Findings.systemIsolation Findings.userCross Findings.allIsolated Findings.allReachable Findings.connects Findings.oneDirection

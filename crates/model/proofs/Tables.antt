@@ -1,4 +1,4 @@
--- Laws of tables: the search for a free slot, and a slot that is free. Assumes nothing.
+-- By induction over the table: the slot that the search finds is free, and it finds none exactly if the table is full.
 use mathlib.Core.Path.{_≡_, refl, ap, _∙_}
 use mathlib.Core.Bool.{Bool, true, false, not}
 use mathlib.Core.List.{[], _∷_}

@@ -1,6 +1,6 @@
--- A bit that a change does not set anew is by the rules what it was: so each change keeps a registry computed. Assumes nothing.
+-- A bit that a change does not set anew is by the rules what it was: so each change keeps a registry computed.
 use mathlib.Core.Path.{_≡_, refl, fun-ext}
-use mathlib.Core.Bool.{Bool, true, false, not, _&&_, _||_, cond}
+use mathlib.Core.Bool.{Bool, true, false, _&&_, _||_, cond}
 use mathlib.Core.List.{List, [], _∷_}
 use mathlib.Core.Option.{Option, none, some}
 use Prim.Native.Nat.{ℕ, zero, suc}
@@ -10,7 +10,7 @@ use lib.Seq.{getD-set-other}
 use borrow.Author.Tests.{eqb-false}
 use Rattle.block.specs.Entry.{Container, Direction, ingress, egress, Policy, Settings}
 use Rattle.model.specs.Table.{any, on, at}
-use Rattle.model.specs.Rules.{selects, allows, sameDirection, someSelects, someAllows, lets, reaches}
+use Rattle.model.specs.Rules.{selects, allows, sameDirection, someSelects, someAllows, permits, reaches}
 use Rattle.model.specs.Model.{Model, empty, withContainer, withPolicy, matrixBit, selectedBit, allowedBit, computedBits}
 use Rattle.model.proofs.Lists.{neither}
 use Rattle.model.specs.Registry.{computed, setWhere, changeContainer, touches, touched, changePolicy, opened}
@@ -68,9 +68,9 @@ IsOrFree : Policy → Option Policy → Type 0
 IsOrFree p x = (f : Policy → Bool) → f p ≡ false → on f x ≡ false
 
 module _ (m : Model) (q : ℕ) (p : Policy) (x : Option Policy) (old : IsOrFree p (at (m .policies) q)) (new : IsOrFree p x) where
-  lets-other : (d : Direction) (u v : Container) → (sameDirection d (p .direction) && selects p u) ≡ false → lets d (set (m .policies) q x) u v ≡ lets d (m .policies) u v
-  unfolding lets someSelects someAllows IsOrFree
-  lets-other d u v e =
+  permits-other : (d : Direction) (u v : Container) → (sameDirection d (p .direction) && selects p u) ≡ false → permits d (set (m .policies) q x) u v ≡ permits d (m .policies) u v
+  unfolding permits someSelects someAllows IsOrFree
+  permits-other d u v e =
       let e′ = and-false (sameDirection d (p .direction)) (selects p u) (allows p v) e in
       rw (
         any-set (on (λ r. sameDirection d (r .direction) && selects r u)) (m .policies) q x none (new _ e) (old _ e),
@@ -79,7 +79,7 @@ module _ (m : Model) (q : ℕ) (p : Policy) (x : Option Policy) (old : IsOrFree 
 
   reaches-other : (u v : Container) → touches p u v ≡ false → reaches (m .policies) u v ≡ reaches (set (m .policies) q x) u v
   unfolding reaches touches
-  reaches-other u v e = let h = neither (sameDirection egress (p .direction) && selects p u) _ e in rw (lets-other egress u v (h .0), lets-other ingress v u (h .1))
+  reaches-other u v e = let h = neither (sameDirection egress (p .direction) && selects p u) _ e in rw (permits-other egress u v (h .0), permits-other ingress v u (h .1))
 
   matrix-untouched : (a b : ℕ) → touched (withPolicy m q x) p a b ≡ false → matrixBit m a b ≡ matrixBit (withPolicy m q x) a b
   unfolding matrixBit touched withPolicy

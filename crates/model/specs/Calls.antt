@@ -1,28 +1,35 @@
--- The calls, with their arguments, and what they answer. Assumes nothing.
+-- The calls, with their arguments, and what they answer.
 use mathlib.Core.Bool.{Bool}
 use mathlib.Core.List.{List, [], _∷_, map}
 use mathlib.Core.Option.{Option, none, some}
 use Prim.Native.Nat.{ℕ}
 use Rattle.model.specs.declared.Finding.{Finding}
 use Rattle.model.specs.Findings.{Cursor, placeOf, moved, findingCode}
-use Rattle.model.specs.declared.Refusal.{Refusal}
-use Rattle.model.specs.declared.Refusal.the-variants.{MemorySize, NotWellFormed, BlockLength, Checksum, Kind, Limit, Range, Order, Unused, BeyondTable, FreeSlot, TableFull}
 
 -- "The calls are: open (a settings block), admit (a container or policy block), remove a container, remove a policy, ask
 -- whether a reaches b, ask whether a container carries a value under the user key, next finding, counts, rebuild, and audit." Later ones join.
+
+-- "The calls that ask change nothing."
+pub data Query : Type 0 where
+  askReaches : ℕ → ℕ → Query
+  askUser : ℕ → ℕ → Query
+  nextFinding : Cursor → Query
+  -- the next findings after a cursor, into a list lent for so many numbers
+  listFindings : Cursor → ℕ → Query
+  counts : Query
+  audit : Query
+
+-- those that change entries or bits of a registry that stands
+pub data Change : Type 0 where
+  admit : List ℕ → Change
+  removeContainer : ℕ → Change
+  removePolicy : ℕ → Change
+  rebuild : Change
+
 pub data Call : Type 0 where
   openWith : List ℕ → Call
-  admit : List ℕ → Call
-  removeContainer : ℕ → Call
-  removePolicy : ℕ → Call
-  askReaches : ℕ → ℕ → Call
-  askUser : ℕ → ℕ → Call
-  nextFinding : Cursor → Call
-  -- the next findings after a cursor, into a list lent for so many numbers
-  listFindings : Cursor → ℕ → Call
-  counts : Call
-  rebuild : Call
-  audit : Call
+  change : Change → Call
+  ask : Query → Call
 
 pub data Answer : Type 0 where
   -- "The call then returns its number alone."
@@ -47,32 +54,31 @@ foundAnswer (some g) = found g (placeOf g)
 abbrev pub findingsAnswer : Cursor → List Finding → Answer
 findingsAnswer c l = findingsPut (map findingCode l) (moved c l)
 
+-- The parts of an answer that something above asks for, each where the answer has it.
+pub record Said : Type 0 where
+  pub refused : Option ℕ
+  pub finding : Option (Finding × Cursor)
+  pub put : Option (List ℕ × Cursor)
+  pub counts : Option (ℕ × ℕ × ℕ)
+
+abbrev pub saying : Option ℕ → Option (Finding × Cursor) → Option (List ℕ × Cursor) → Option (ℕ × ℕ × ℕ) → Said
+saying r f p n = record { refused = r; finding = f; put = p; counts = n }
+
+-- The one function by cases of an answer.
+abbrev pub said : Answer → Said
+said (refusal n) = saying (some n) none none none
+said done = saying none none none none
+said (containerAt c) = saying none none none none
+said (policyAt q) = saying none none none none
+said (says t) = saying none none none none
+said (found g c) = saying none (some (g, c)) none none
+said noFinding = saying none none none none
+said (findingsPut l c) = saying none none (some (l, c)) none
+said (counted c q n) = saying none none none (some (c, q, n))
+
 -- What a call writes into another buffer that it is lent.
 abbrev pub written : Answer → List ℕ
-written (findingsPut l c) = l
-written (refusal n) = []
-written done = []
-written (containerAt c) = []
-written (policyAt q) = []
-written (says t) = []
-written (found g c) = []
-written noFinding = []
-written (counted c q n) = []
-
--- document 01's number of each refusal
-abbrev pub refusalNumber : Refusal → ℕ
-refusalNumber MemorySize = 1
-refusalNumber NotWellFormed = 2
-refusalNumber BlockLength = 3
-refusalNumber Checksum = 4
-refusalNumber Kind = 5
-refusalNumber Limit = 6
-refusalNumber Range = 7
-refusalNumber Order = 8
-refusalNumber Unused = 9
-refusalNumber BeyondTable = 10
-refusalNumber FreeSlot = 11
-refusalNumber TableFull = 12
+written a = elim (said a .put) [ none ↦ [] | some p ↦ p .0 ]
 
 -- a list of calls from a state: the state at its end, and the answers
 module _ {S : Type 0} where

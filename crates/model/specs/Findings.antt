@@ -1,4 +1,4 @@
--- The seven findings: over the standing entries of a model, and bits. Assumes nothing.
+-- The seven findings: over the standing entries of a model, and bits.
 use mathlib.Core.Bool.{Bool, not, _&&_, _||_, cond}
 use mathlib.Core.List.{List, [], _∷_, _++_}
 use mathlib.Core.Option.{Option, none, some}

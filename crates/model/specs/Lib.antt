@@ -1,5 +1,6 @@
 -- The meaning of the register, in document 01's order.
 pub mod Table
+pub mod Lowest
 pub mod Rules
 pub mod Model
 pub mod Findings

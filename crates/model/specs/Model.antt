@@ -1,4 +1,4 @@
--- The entries, and the bits that the rules give of them. Assumes nothing.
+-- The entries, and the bits that the rules give of them.
 use mathlib.Core.Bool.{Bool}
 use mathlib.Core.Option.{Option, none}
 use Prim.Native.Nat.{ℕ}

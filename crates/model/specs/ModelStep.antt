@@ -1,5 +1,4 @@
 -- The reference model's step: document 01, "The plain book of demand 3". It knows of no stored bit and of no memory.
--- Assumes nothing.
 use mathlib.Core.Bool.{true, _&&_, cond}
 use mathlib.Core.Option.{Option, none, some}
 use Prim.Native.Nat.{ℕ}
@@ -12,7 +11,8 @@ use Rattle.model.specs.Table.{at, lowestFree}
 use Rattle.model.specs.Rules.{carries}
 use Rattle.model.specs.Model.{containerSlots, policySlots, Model, empty, withContainer, withPolicy, computedBits}
 use Rattle.model.specs.Findings.{containersOf, policiesOf, nextAfter, walk, pairs}
-use Rattle.model.specs.Calls.{Call, openWith, admit, removeContainer, removePolicy, askReaches, askUser, nextFinding, listFindings, counts, rebuild, audit}
+use Rattle.model.specs.Calls.{Query, askReaches, askUser, nextFinding, listFindings, counts, audit}
+use Rattle.model.specs.Calls.{Call, openWith, change, admit, removeContainer, removePolicy, rebuild, ask}
 use Rattle.model.specs.Calls.{Answer, refusal, done, containerAt, policyAt, says, counted, foundAnswer, findingsAnswer}
 
 module _ (m : Model) where
@@ -55,19 +55,23 @@ module _ (m : Model) where
   askingUser v none = refusal 11
   askingUser v (some x) = says (carries x (record { key = m .settings .userKey; value = v }))
 
+  -- the answer to a call that asks
+  unfoldable pub modelAnswer : Query → Answer
+  modelAnswer (askReaches a b) =
+      cond (ltb a containerSlots && ltb b containerSlots) (asking a b (at (m .containers) a) (at (m .containers) b)) (refusal 10)
+  modelAnswer (askUser c v) = cond (ltb c containerSlots) (askingUser v (at (m .containers) c)) (refusal 10)
+  modelAnswer (nextFinding c) = foundAnswer (nextAfter m (computedBits m) c)
+  modelAnswer (listFindings c n) = findingsAnswer c (walk (nextAfter m (computedBits m)) n c)
+  modelAnswer counts = counted (length (containersOf m)) (length (policiesOf m)) (pairs (computedBits m))
+  modelAnswer audit = says true
+
 -- "A call goes through the checks it meets, in their order, over its arguments, these settings and these tables. Turned down,
 -- it changes nothing. Other calls, rebuild too, change nothing. Audit is answered that the book is in step; an accepted open,
 -- removal or rebuild, that it was done."
 unfoldable pub modelStep : Model → Call → Model × Answer
 modelStep m (openWith b) = opening m (readSettings b)
-modelStep m (admit b) = admitting m (readEntry (m .settings) b)
-modelStep m (removeContainer c) = cond (ltb c containerSlots) (removing m c (at (m .containers) c)) (m, refusal 10)
-modelStep m (removePolicy q) = cond (ltb q policySlots) (removingPolicy m q (at (m .policies) q)) (m, refusal 10)
-modelStep m (askReaches a b) =
-    (m, cond (ltb a containerSlots && ltb b containerSlots) (asking m a b (at (m .containers) a) (at (m .containers) b)) (refusal 10))
-modelStep m (askUser c v) = (m, cond (ltb c containerSlots) (askingUser m v (at (m .containers) c)) (refusal 10))
-modelStep m (nextFinding c) = (m, foundAnswer (nextAfter m (computedBits m) c))
-modelStep m (listFindings c n) = (m, findingsAnswer c (walk (nextAfter m (computedBits m)) n c))
-modelStep m counts = (m, counted (length (containersOf m)) (length (policiesOf m)) (pairs (computedBits m)))
-modelStep m rebuild = (m, done)
-modelStep m audit = (m, says true)
+modelStep m (change (admit b)) = admitting m (readEntry (m .settings) b)
+modelStep m (change (removeContainer c)) = cond (ltb c containerSlots) (removing m c (at (m .containers) c)) (m, refusal 10)
+modelStep m (change (removePolicy q)) = cond (ltb q policySlots) (removingPolicy m q (at (m .policies) q)) (m, refusal 10)
+modelStep m (change rebuild) = (m, done)
+modelStep m (ask q) = (m, modelAnswer m q)

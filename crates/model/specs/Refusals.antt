@@ -1,19 +1,20 @@
--- The refusals that each call meets, in their order; 1 and 2 come with memory. Assumes nothing.
-use mathlib.Core.Bool.{Bool, not, _||_, cond}
+-- The refusals that each call meets, in their order; 1 and 2 come with memory.
+use mathlib.Core.Bool.{Bool, true, not, _||_}
 use mathlib.Core.List.{List, [], _∷_, _++_}
-use Prim.Native.Nat.{ℕ, _<_}
+use Prim.Native.Nat.{ℕ}
 use mathlib.Core.Path.{_≡_}
-use lib.Dec.{eqb, leb}
+use lib.Dec.{leb}
 use Rattle.block.specs.declared.Fault.{Fault}
-use Rattle.block.specs.declared.Fault.the-variants.{Nowhere, At}
+use Rattle.block.specs.declared.Fault.the-variants.{At}
 use Rattle.block.specs.Entry.{Entry, container, policy}
-use Rattle.block.specs.Fault.{unless}
+use Rattle.block.specs.Fault.{unless, clear}
 use Rattle.block.specs.Refusal.{Check, check}
-use Rattle.block.specs.Reader.{settingsChecks, entryChecks, entryIn}
-use Rattle.model.specs.Table.{Table, free, full}
+use Rattle.block.specs.Reader.{settingsChecks, entryChecks, entrySaid}
+use Rattle.model.specs.Table.{Table, all, free, full}
 use Rattle.model.specs.Model.{containerSlots, policySlots, Model}
 use Rattle.model.specs.Registry.{Registry}
-use Rattle.model.specs.Calls.{Call, openWith, admit, removeContainer, removePolicy, askReaches, askUser, nextFinding, listFindings, counts, rebuild, audit}
+use Rattle.model.specs.Calls.{askReaches, askUser, nextFinding, listFindings, counts, audit}
+use Rattle.model.specs.Calls.{Call, openWith, change, admit, removeContainer, removePolicy, rebuild, ask}
 
 -- a fault of no position in a block, where the condition holds
 abbrev pub where0 : Bool → Fault
@@ -39,23 +40,20 @@ noRoom m (policy p) = full (m .policies)
 -- "Open meets 1, 3, 4, 5, 7, 9. Admit meets 1 to 9 and 12. Removing and asking meet 1, 2, 10, 11. The rest meet 1 and 2."
 unfoldable pub refusals : Registry → Call → List Check
 refusals r (openWith b) = settingsChecks b
-refusals r (admit b) = entryChecks (r .model .settings) b ++ (check 12 (where0 (noRoom (r .model) (entryIn b))) ∷ [])
-refusals r (removeContainer c) = slotChecks containerSlots (r .model .containers) c
-refusals r (removePolicy q) = slotChecks policySlots (r .model .policies) q
-refusals r (askReaches a b) = pairChecks containerSlots (r .model .containers) a b
-refusals r (askUser c v) = slotChecks containerSlots (r .model .containers) c
-refusals r (nextFinding c) = []
-refusals r (listFindings c n) = []
-refusals r counts = []
-refusals r rebuild = []
-refusals r audit = []
+refusals r (change (admit b)) = entryChecks (r .model .settings) b ++ (check 12 (where0 (noRoom (r .model) (entrySaid b))) ∷ [])
+refusals r (change (removeContainer c)) = slotChecks containerSlots (r .model .containers) c
+refusals r (change (removePolicy q)) = slotChecks policySlots (r .model .policies) q
+refusals r (change rebuild) = []
+refusals r (ask (askReaches a b)) = pairChecks containerSlots (r .model .containers) a b
+refusals r (ask (askUser c v)) = slotChecks containerSlots (r .model .containers) c
+refusals r (ask (nextFinding c)) = []
+refusals r (ask (listFindings c n)) = []
+refusals r (ask counts) = []
+refusals r (ask audit) = []
 
--- where the check of number n finds fault; nowhere if n is not among those met
-abbrev pub faultOf : ℕ → List Check → Fault
-faultOf n [] = Nowhere
-faultOf n (c ∷ cs) = cond (eqb n (c .number)) (c .fault) (faultOf n cs)
-
--- n applies, at position p, and none before it
+-- "The first that applies, in this order": the check of number n finds fault at p, and no check before it in the list finds any.
 pub record Refuses (cs : List Check) (n p : ℕ) : Type 0 where
-  pub applies : faultOf n cs ≡ At p
-  pub before : (k : ℕ) → k < n → faultOf k cs ≡ Nowhere
+  pub before : List Check
+  pub after : List Check
+  pub met : cs ≡ before ++ (check n (At p) ∷ after)
+  pub passed : all (λ c. clear (c .fault)) before ≡ true

@@ -1,4 +1,4 @@
--- The registry: entries and stored bits, and how an accepted change sets them. Assumes nothing.
+-- The registry: entries and stored bits, and how an accepted change sets them.
 use mathlib.Core.Path.{_≡_}
 use mathlib.Core.Bool.{Bool, false, _&&_, _||_, cond, Bool·beq}
 use mathlib.Core.Option.{Option}

@@ -1,14 +1,17 @@
--- The registry's step: the refusals that the call meets, then what it does to entries and stored bits. Assumes nothing.
+-- The registry's step: the refusals that the call meets, then what it does to entries and stored bits.
 use mathlib.Core.Option.{Option, none, some}
 use Prim.Native.Nat.{ℕ}
 use lib.ListN.{length}
 use Rattle.block.specs.Entry.{Container, Policy, Entry, container, policy}
-use Rattle.block.specs.Refusal.{Refusal, firstRefusal}
-use Rattle.block.specs.Reader.{settingsIn, entryIn}
+use Rattle.block.specs.declared.Tested.{Tested}
+use Rattle.block.specs.declared.Tested.the-variants.{Passed, Refused}
+use Rattle.block.specs.Refusal.{firstRefusal}
+use Rattle.block.specs.Reader.{settingsSaid, entrySaid}
 use Rattle.model.specs.Table.{on, at, lowestFree}
 use Rattle.model.specs.Rules.{carries}
 use Rattle.model.specs.Findings.{containersOf, policiesOf, nextAfter, walk, pairs}
-use Rattle.model.specs.Calls.{Call, openWith, admit, removeContainer, removePolicy, askReaches, askUser, nextFinding, listFindings, counts, rebuild, audit}
+use Rattle.model.specs.Calls.{Query, askReaches, askUser, nextFinding, listFindings, counts, audit}
+use Rattle.model.specs.Calls.{Call, openWith, change, admit, removeContainer, removePolicy, rebuild, ask}
 use Rattle.model.specs.Calls.{Answer, refusal, done, containerAt, policyAt, says, counted, foundAnswer, findingsAnswer}
 use Rattle.model.specs.Registry.{Registry, consistent, changeContainer, changePolicy, opened, rebuilt}
 use Rattle.model.specs.Refusals.{refusals}
@@ -31,25 +34,28 @@ module _ (r : Registry) where
   takePolicy q none = (r, refusal 11)
   takePolicy q (some p) = (changePolicy r q p none, done)
 
+  -- what a query that no check refuses is answered, from the entries and the stored bits
+  unfoldable pub answerTo : Query → Answer
+  answerTo (askReaches a b) = says (r .bits .matrix a b)
+  answerTo (askUser c v) = says (on (λ x. carries x (record { key = r .model .settings .userKey; value = v })) (at (r .model .containers) c))
+  answerTo (nextFinding c) = foundAnswer (nextAfter (r .model) (r .bits) c)
+  answerTo (listFindings c n) = findingsAnswer c (walk (nextAfter (r .model) (r .bits)) n c)
+  answerTo counts = counted (length (containersOf (r .model))) (length (policiesOf (r .model))) (pairs (r .bits))
+  answerTo audit = says (consistent r)
+
   -- a call that no check refuses
   unfoldable pub acceptedStep : Call → Registry × Answer
-  acceptedStep (openWith b) = (opened (settingsIn b), done)
-  acceptedStep (admit b) = admitEntry (entryIn b)
-  acceptedStep (removeContainer c) = (changeContainer r c none, done)
-  acceptedStep (removePolicy q) = takePolicy q (at (r .model .policies) q)
-  acceptedStep (askReaches a b) = (r, says (r .bits .matrix a b))
-  acceptedStep (askUser c v) =
-      (r, says (on (λ x. carries x (record { key = r .model .settings .userKey; value = v })) (at (r .model .containers) c)))
-  acceptedStep (nextFinding c) = (r, foundAnswer (nextAfter (r .model) (r .bits) c))
-  acceptedStep (listFindings c n) = (r, findingsAnswer c (walk (nextAfter (r .model) (r .bits)) n c))
-  acceptedStep counts = (r, counted (length (containersOf (r .model))) (length (policiesOf (r .model))) (pairs (r .bits)))
-  acceptedStep rebuild = (rebuilt r, done)
-  acceptedStep audit = (r, says (consistent r))
+  acceptedStep (openWith b) = (opened (settingsSaid b), done)
+  acceptedStep (change (admit b)) = admitEntry (entrySaid b)
+  acceptedStep (change (removeContainer c)) = (changeContainer r c none, done)
+  acceptedStep (change (removePolicy q)) = takePolicy q (at (r .model .policies) q)
+  acceptedStep (change rebuild) = (rebuilt r, done)
+  acceptedStep (ask q) = (r, answerTo q)
 
   -- refused, the call returns the number alone and changes nothing
-  unfoldable pub unlessRefused : Call → Option Refusal → Registry × Answer
-  unlessRefused call none = acceptedStep call
-  unlessRefused call (some f) = (r, refusal (f .number))
+  unfoldable pub unlessRefused : Call → Tested → Registry × Answer
+  unlessRefused call Passed = acceptedStep call
+  unlessRefused call (Refused f) = (r, refusal (f .number))
 
 unfoldable pub registryStep : Registry → Call → Registry × Answer
 registryStep r call = unlessRefused r call (firstRefusal (refusals r call))

@@ -1,4 +1,4 @@
--- The written rules. Assumes nothing.
+-- The written rules.
 use mathlib.Core.Bool.{Bool, true, false, not, _&&_, _||_}
 use mathlib.Core.List.{List}
 use lib.Dec.{eqb}
@@ -40,9 +40,9 @@ someAllows d ps c o = any (on (λ p. sameDirection d (p .direction) && (selects 
 
 -- "Egress lets a go to b if no egress policy selects a, or some egress policy selects a and allows b. Ingress lets b take a
 -- if no ingress policy selects b, or some ingress policy selects b and allows a."
-unfoldable pub lets : Direction → Table Policy → Container → Container → Bool
-lets d ps c o = not (someSelects d ps c) || someAllows d ps c o
+unfoldable pub permits : Direction → Table Policy → Container → Container → Bool
+permits d ps c o = not (someSelects d ps c) || someAllows d ps c o
 
 -- "a reaches b if both let it. This includes a = b."
 unfoldable pub reaches : Table Policy → Container → Container → Bool
-reaches ps a b = lets egress ps a b && lets ingress ps b a
+reaches ps a b = permits egress ps a b && permits ingress ps b a

@@ -1,4 +1,4 @@
--- Document 01, "Instances to hold on to": the starred ones as one table, and what it claims. Assumes nothing.
+-- Document 01, "Instances to hold on to": the starred ones as one table, and what it claims.
 use mathlib.Core.Path.{_≡_}
 use mathlib.Core.Bool.{Bool, true, false, not, _&&_, cond, Bool·beq}
 use mathlib.Core.List.{List, [], _∷_}
@@ -66,9 +66,9 @@ sameRows m [] (r ∷ rs) = false
 sameRows m (a ∷ l) [] = false
 sameRows m (a ∷ l) (r ∷ rs) = sameNumbers (filter (matrixBit m a) (containersOf m)) r && sameRows m l rs
 
-abbrev pub refusedWith : ℕ → ℕ → Read Entry → Bool
-refusedWith n p (refused f) = eqb (f .number) n && eqb (f .position) p
-refusedWith n p (accepted e) = false
+abbrev pub refusedAt : ℕ → ℕ → Read Entry → Bool
+refusedAt n p (refused f) = eqb (f .number) n && eqb (f .position) p
+refusedAt n p (accepted e) = false
 
 -- a registry whose stored bits are all t
 abbrev pub filled : Model → Bool → Registry
@@ -95,17 +95,17 @@ abbrev pub columnIs : Registry → Bool → ℕ → List ℕ → Bool
 columnIs r t b l = all (λ a. Bool·beq (r .bits .matrix a b) t) l
 
 -- What an instance claims.
-unfoldable pub Holds : Instance → Type 0
-Holds (hasChecksum l n) = checksum (sealed l) ≡ n
-Holds (isRefused l n p) = refusedWith n p (readEntry (record { userKey = 1; systemKey = 0; systemValue = 0 }) (sealed l)) ≡ true
-Holds (hasFindings m l) = sameFindings (findings m (computedBits m)) l ≡ true
-Holds (hasMatrix m rows n) = (sameRows m (containersOf m) rows ≡ true) × (pairs (computedBits m) ≡ n)
-Holds (listsFirst m f g) = (lists (findings m (computedBits m)) f && not (lists (findings m (computedBits m)) g)) ≡ true
-Holds (leavesColumn m p b l) = all (λ t. columnIs (changePolicy (filled m t) 0 p (some p)) t b l) (true ∷ false ∷ []) ≡ true
+unfoldable pub Claim : Instance → Type 0
+Claim (hasChecksum l n) = checksum (sealed l) ≡ n
+Claim (isRefused l n p) = refusedAt n p (readEntry (record { userKey = 1; systemKey = 0; systemValue = 0 }) (sealed l)) ≡ true
+Claim (hasFindings m l) = sameFindings (findings m (computedBits m)) l ≡ true
+Claim (hasMatrix m rows n) = (sameRows m (containersOf m) rows ≡ true) × (pairs (computedBits m) ≡ n)
+Claim (listsFirst m f g) = (lists (findings m (computedBits m)) f && not (lists (findings m (computedBits m)) g)) ≡ true
+Claim (leavesColumn m p b l) = all (λ t. columnIs (changePolicy (filled m t) 0 p (some p)) t b l) (true ∷ false ∷ []) ≡ true
 
 unfoldable pub AllHold : List Instance → Type 0
 AllHold [] = Unit {0}
-AllHold (i ∷ is) = Holds i × AllHold is
+AllHold (i ∷ is) = Claim i × AllHold is
 
 abbrev pub noSystem : Settings
 noSystem = record { userKey = 1; systemKey = 0; systemValue = 0 }

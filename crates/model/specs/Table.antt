@@ -1,4 +1,4 @@
--- Tables of slots, and what is asked of lists. Assumes nothing.
+-- Tables of slots, and what is asked of lists.
 use mathlib.Core.Bool.{Bool, true, false, not, _&&_, _||_, cond}
 use mathlib.Core.List.{List, [], _∷_}
 use mathlib.Core.Option.{Option, none, some}

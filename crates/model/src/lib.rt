@@ -12,19 +12,3 @@ pub struct Finding {
     pub a: u16,
     pub b: u16,
 }
-
-// Why a call is refused.
-pub enum Refusal {
-    MemorySize,
-    NotWellFormed,
-    BlockLength,
-    Checksum,
-    Kind,
-    Limit,
-    Range,
-    Order,
-    Unused,
-    BeyondTable,
-    FreeSlot,
-    TableFull,
-}

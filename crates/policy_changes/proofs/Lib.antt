@@ -1,2 +1,2 @@
--- The laws behind the proofs of `policy_changes`.
-pub mod PolicyLaws
+-- Laws of `policy_changes`.
+mod PolicyChanged

@@ -1,13 +1,12 @@
--- The rules over candidate sets are the model's rules: a line by the rules is a row or a column of the model's matrix. Assumes
--- nothing.
+-- The rules over candidate sets are the model's rules: a line by the rules is a row or a column of the model's matrix.
 use mathlib.Core.Path.{_≡_, refl, sym, ap, ap₂, _∙_, fun-ext}
-use mathlib.Core.Bool.{Bool, true, false, not, _&&_, _||_, and-assoc, and-comm, or-assoc, or-false, true≢false}
+use mathlib.Core.Bool.{Bool, not, _&&_, _||_, and-assoc, and-comm, or-assoc, or-false}
 use mathlib.Core.List.{List, [], _∷_}
 use mathlib.Core.Option.{Option, none, some as just}
 use Prim.Native.Nat.{ℕ, zero, suc, _<_}
 use lib.ListN.{length}
 use Rattle.bitrow.specs.Bit.{bitAt}
-use Rattle.bitrow.specs.Set.{nothing, some}
+use Rattle.bitrow.specs.Set.{some}
 use Rattle.bitrow.proofs.Sets.{at as point}
 use Rattle.bitrow.proofs.Tests.{some-cong}
 use Rattle.block.specs.Entry.{Container, Direction, ingress, egress}
@@ -16,8 +15,8 @@ use Rattle.model.specs.Rules.{sameDirection, selects, allows, someSelects, some
 use Rattle.model.specs.Rules as rules
 use Rattle.model.specs.Model.{policySlots, Model, matrixBit, selectedBit, allowedBit}
 use Rattle.sets.specs.Sets.{bits, RowsAre, SetsOf}
-use Rattle.reach.specs.declared.rules.Sides.{Sides}
-use Rattle.reach.specs.Lets.{having, union, lets, line}
+use Rattle.rules.specs.declared.Sides.{Sides}
+use Rattle.rules.specs.Lets.{having, union, setsLet, line}
 use Rattle.reach.specs.Sides.{SidesOf, directionSet, opposite, lineBit}
 
 -- ---- some slot of a table, as some number below its length
@@ -27,10 +26,10 @@ unfolding some
 some-front f zero = sym (or-false (f 0))
 some-front f (suc n) = rw (some-front f n) (or-assoc (f 0) (some (λ q. f (suc q)) n) (f (suc n)))
 
-pub any-some : {A : Type 0} (f : Option A → Bool) (l : Table A) → any f l ≡ some (λ q. f (at l q)) (length l)
+any-slot : {A : Type 0} (f : Option A → Bool) (l : Table A) → any f l ≡ some (λ q. f (at l q)) (length l)
 unfolding some
-any-some f [] = refl
-any-some f (x ∷ l) = ap (λ (b : Bool). f x || b) (any-some f l) ∙ sym (some-front (λ q. f (at (x ∷ l) q)) (length l))
+any-slot f [] = refl
+any-slot f (x ∷ l) = ap (λ (b : Bool). f x || b) (any-slot f l) ∙ sym (some-front (λ q. f (at (x ∷ l) q)) (length l))
 
 on-and : {A : Type 0} (f g : A → Bool) (o : Option A) → on (λ x. f x && g x) o ≡ (on f o && on g o)
 on-and f g none = refl
@@ -40,8 +39,8 @@ on-and f g (just x) = refl
 
 module _ (n : ℕ) (w : ℕ → Bool) {sel alw sel′ alw′ : ℕ → ℕ → Bool}
     (e : (q : ℕ) → q < n → sel q ≡ sel′ q) (f : (q : ℕ) → q < n → alw q ≡ alw′ q) where
-  pub lets-cong : (a b : ℕ) → lets n w sel alw a b ≡ lets n w sel′ alw′ a b
-  unfolding lets union having
+  lets-cong : (a b : ℕ) → setsLet n w sel alw a b ≡ setsLet n w sel′ alw′ a b
+  unfolding setsLet union having
   lets-cong a b =
       ap₂ (λ (x y : Bool). not x || y)
       (some-cong _ _ n (λ q h. ap (λ (x : Bool). w q && x) (point (e q h) a)))
@@ -50,17 +49,17 @@ module _ (n : ℕ) (w : ℕ → Bool) {sel alw sel′ alw′ : ℕ → ℕ → B
 -- ---- the model's sets
 
 module _ (m : Model) (d : Direction) (a b : ℕ) (x y : Container) (ea : at (m .containers) a ≡ just x) (eb : at (m .containers) b ≡ just y) where
-  lets-model : lets (length (m .policies)) (directionSet m d) (selectedBit m) (allowedBit m) a b ≡ rules.lets d (m .policies) x y
-  unfolding lets union having rules.lets someSelects someAllows directionSet selectedBit allowedBit
+  lets-model : setsLet (length (m .policies)) (directionSet m d) (selectedBit m) (allowedBit m) a b ≡ rules.permits d (m .policies) x y
+  unfolding setsLet union having rules.permits someSelects someAllows directionSet selectedBit allowedBit
   lets-model =
       ap₂ (λ (s t : Bool). not s || t)
       (some-cong _ _ (length (m .policies)) (λ q h. rw ea (sym (on-and (λ r. sameDirection d (r .direction)) (λ r. selects r x) (at (m .policies) q))))
-      ∙ sym (any-some (on (λ r. sameDirection d (r .direction) && selects r x)) (m .policies)))
+      ∙ sym (any-slot (on (λ r. sameDirection d (r .direction) && selects r x)) (m .policies)))
       (some-cong _ _ (length (m .policies)) (λ q h. rw (ea, eb)
       (and-assoc (on (λ r. sameDirection d (r .direction)) (at (m .policies) q)) (on (λ r. selects r x) (at (m .policies) q)) (on (λ r. allows r y) (at (m .policies) q))
       ∙ ap (λ (s : Bool). on (λ r. sameDirection d (r .direction)) (at (m .policies) q) && s) (sym (on-and (λ r. selects r x) (λ r. allows r y) (at (m .policies) q)))
       ∙ sym (on-and (λ r. sameDirection d (r .direction)) (λ r. selects r x && allows r y) (at (m .policies) q))))
-      ∙ sym (any-some (on (λ r. sameDirection d (r .direction) && (selects r x && allows r y))) (m .policies)))
+      ∙ sym (any-slot (on (λ r. sameDirection d (r .direction) && (selects r x && allows r y))) (m .policies)))
 
 abbrev Slot : Type 0
 Slot = Option Container
@@ -79,7 +78,7 @@ module _ (m : Model) (a b : ℕ) where
   line-model ingress none (just y) e f = rw (e, f)
   line-model ingress (just x) none e f = rw (e, f)
   line-model ingress (just x) (just y) e f =
-      rw (lets-model m ingress a b x y e f, lets-model m egress b a y x f e, e, f) (and-comm (rules.lets ingress (m .policies) x y) (rules.lets egress (m .policies) y x))
+      rw (lets-model m ingress a b x y e f, lets-model m egress b a y x f e, e, f) (and-comm (rules.permits ingress (m .policies) x y) (rules.permits egress (m .policies) y x))
 
 -- ---- a line by the rules over candidate sets is the model's
 
@@ -100,17 +99,6 @@ line-row m a = fun-ext (λ b. refl)
 pub line-column : (m : Model) (b : ℕ) → lineBit m ingress b ≡ (λ a. matrixBit m a b)
 unfolding lineBit
 line-column m b = fun-ext (λ a. refl)
-
--- "a bit of an empty place being clear"
-pub line-none : (m : Model) (d : Direction) (a : ℕ) → stands (m .containers) a ≡ false → lineBit m d a ≡ nothing
-unfolding lineBit matrixBit nothing
-line-none m d a e = fun-ext (λ b. go d b (at (m .containers) a) (at (m .containers) b) refl refl e)
-  where
-    go : (d : Direction) (b : ℕ) (o p : Slot) → at (m .containers) a ≡ o → at (m .containers) b ≡ p → on (λ x. true) o ≡ false → lineBit m d a b ≡ false
-    go egress b none p f g h = rw f
-    go ingress b none none f g h = rw (f, g)
-    go ingress b none (just y) f g h = rw (f, g)
-    go d b (just x) p f g h = absurd (true≢false h)
 
 -- a line of a model's sets, its policies in their slots: what `row_by_rules` gives, and a row that is read from lines
 module _ (m : Model) {sel alw : List (List ℕ)} (size : length (m .policies) ≡ policySlots) (sets : SetsOf m sel alw) where

@@ -1,4 +1,4 @@
--- The policies of a direction read from a memory, and the sides of a row and of a column. Assumes nothing.
+-- The policies of a direction read from a memory, and the sides of a row and of a column.
 use mathlib.Core.Path.{_≡_, refl, sym, ap, _∙_, fun-ext}
 use mathlib.Core.Bool.{Bool, true, false, cond}
 use mathlib.Core.List.{List, [], _∷_}
@@ -16,7 +16,7 @@ use Rattle.block.specs.Reader.{directionOf}
 use Rattle.model.specs.Table.{on, at}
 use Rattle.model.specs.Rules.{sameDirection}
 use Rattle.model.specs.Model.{policySlots, Model}
-use Rattle.store.specs.Layout.{wordAt, policyStart}
+use Rattle.store.specs.Layout.{policiesStart, policyWords, policyStart, wordAt}
 use Rattle.store.proofs.Cases.{by-eqb}
 use Rattle.formed.specs.Words.{policyAt, policyIn}
 use Rattle.formed.specs.Registry.{modelIn, registryIn, wellFormed}
@@ -25,37 +25,37 @@ use Rattle.formed.proofs.Acceptable.{policies-size}
 use Rattle.formed.proofs.Reading.{policy-slot, policy-beyond, formed-direction}
 use Rattle.formed.proofs.Standing.{meet-in, meet-out, two-words, passing, slots-word}
 use Rattle.sets.specs.Sets.{bits}
-use Rattle.reach.specs.declared.rules.Sides.{Sides}
-use Rattle.reach.specs.Lets.{union}
+use Rattle.rules.specs.declared.Sides.{Sides}
+use Rattle.rules.specs.Lets.{union}
 use Rattle.reach.specs.Sides.{SidesOf, Exchanged, directionSet, opposite}
 
 -- ---- the policies of a direction
 
 -- a direction word among 0, 1 and 2
-direction-word : (d w : ℕ) → 1 ≤ d → d ≤ 2 → w ≤ 2 → eqb w d ≡ cond (eqb w 0) false (sameDirection (directionOf d) (directionOf w))
+same-direction-word : (d w : ℕ) → 1 ≤ d → d ≤ 2 → w ≤ 2 → eqb w d ≡ cond (eqb w 0) false (sameDirection (directionOf d) (directionOf w))
 unfolding directionOf sameDirection
-direction-word zero w a b c = absurd (omega arith)
-direction-word (suc zero) zero a b c = refl
-direction-word (suc zero) (suc zero) a b c = refl
-direction-word (suc zero) (suc (suc zero)) a b c = refl
-direction-word (suc zero) (suc (suc (suc w))) a b c = absurd (omega arith)
-direction-word (suc (suc zero)) zero a b c = refl
-direction-word (suc (suc zero)) (suc zero) a b c = refl
-direction-word (suc (suc zero)) (suc (suc zero)) a b c = refl
-direction-word (suc (suc zero)) (suc (suc (suc w))) a b c = absurd (omega arith)
-direction-word (suc (suc (suc d))) w a b c = absurd (omega arith)
+same-direction-word zero w a b c = absurd (omega arith)
+same-direction-word (suc zero) zero a b c = refl
+same-direction-word (suc zero) (suc zero) a b c = refl
+same-direction-word (suc zero) (suc (suc zero)) a b c = refl
+same-direction-word (suc zero) (suc (suc (suc w))) a b c = absurd (omega arith)
+same-direction-word (suc (suc zero)) zero a b c = refl
+same-direction-word (suc (suc zero)) (suc zero) a b c = refl
+same-direction-word (suc (suc zero)) (suc (suc zero)) a b c = refl
+same-direction-word (suc (suc zero)) (suc (suc (suc w))) a b c = absurd (omega arith)
+same-direction-word (suc (suc (suc d))) w a b c = absurd (omega arith)
 
 module _ (m : List ℕ) (ok : wellFormed m ≡ true) (d : ℕ) (low : 1 ≤ d) (high : d ≤ 2) where
   abbrev hasDirection : ℕ → Bool
   hasDirection w = eqb w d
 
   abbrev those : ℕ → Bool
-  those = passing m 2307 11 hasDirection
+  those = passing m policiesStart policyWords hasDirection
 
   direction-at : (q : ℕ) → q < policySlots → those q ≡ directionSet (modelIn m) (directionOf d) q
   unfolding passing directionSet policyIn policyAt
   direction-at q h =
-      direction-word d (wordAt m (policyStart q)) low high (formed-direction m ok q h)
+      same-direction-word d (wordAt m (policyStart q)) low high (formed-direction m ok q h)
       ∙ by-eqb (λ t. cond t false (sameDirection (directionOf d) (directionOf (wordAt m (policyStart q))))
       ≡ on (λ p. sameDirection (directionOf d) (p .direction)) (cond t none (some (policyAt m q)))) (wordAt m (policyStart q)) 0 (λ e. refl) (λ e. refl)
       ∙ sym (ap (on (λ p. sameDirection (directionOf d) (p .direction))) (policy-slot m q h))
@@ -64,14 +64,14 @@ module _ (m : List ℕ) (ok : wellFormed m ≡ true) (d : ℕ) (low : 1 ≤ d) (
   unfolding directionSet
   direction-past q h = ap (on (λ p. sameDirection (directionOf d) (p .direction))) (policy-beyond m q h)
 
-  word-at : (at w : ℕ) → bit w ≡ meet (firsts m at 11 d) (under 64) → (i : ℕ) → i < 64 → bit w i ≡ hasDirection (wordAt m (at + 11 * i))
+  word-at : (at w : ℕ) → bit w ≡ meet (firsts m at policyWords d) (under 64) → (i : ℕ) → i < 64 → bit w i ≡ hasDirection (wordAt m (at + policyWords * i))
   unfolding firsts
-  word-at at w e i h = point e i ∙ meet-in (firsts m at 11 d) 64 i h
+  word-at at w e i h = point e i ∙ meet-in (firsts m at policyWords d) 64 i h
 
-  pub direction-row : (a b : ℕ) → bit a ≡ meet (firsts m 2307 11 d) (under 64) → bit b ≡ meet (firsts m 3011 11 d) (under 64)
+  pub direction-row : (a b : ℕ) → bit a ≡ meet (firsts m policiesStart policyWords d) (under 64) → bit b ≡ meet (firsts m (policiesStart + 64 * policyWords) policyWords d) (under 64)
       → bitAt (a ∷ b ∷ 0 ∷ 0 ∷ []) ≡ directionSet (modelIn m) (directionOf d)
   direction-row a b e f =
-      two-words those a b (slots-word m 2307 11 hasDirection 0 a (word-at 2307 a e)) (slots-word m 2307 11 hasDirection 64 b (word-at 3011 b f))
+      two-words those a b (slots-word m policiesStart policyWords hasDirection 0 a (word-at policiesStart a e)) (slots-word m policiesStart policyWords hasDirection 64 b (word-at (policiesStart + 64 * policyWords) b f))
       ∙ fun-ext (λ q. go q (decLt q policySlots))
     where
       go : (q : ℕ) → Dec (q < policySlots) → meet those (under policySlots) q ≡ directionSet (modelIn m) (directionOf d) q

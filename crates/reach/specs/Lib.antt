@@ -1,4 +1,2 @@
 -- What the contracts of `reach` cite.
-pub mod Lets
 pub mod Sides
-pub mod Lines

@@ -1,4 +1,4 @@
--- What a row and a column of a model's matrix are worked out from. Assumes nothing.
+-- What a row and a column of a model's matrix are worked out from.
 use mathlib.Core.Path.{_≡_}
 use mathlib.Core.Bool.{Bool}
 use mathlib.Core.List.{List}
@@ -9,8 +9,8 @@ use Rattle.model.specs.Table.{on, at, stands}
 use Rattle.model.specs.Rules.{sameDirection}
 use Rattle.model.specs.Model.{policySlots, Model, matrixBit}
 use Rattle.sets.specs.Sets.{bits}
-use Rattle.reach.specs.declared.rules.Sides.{Sides}
-use Rattle.reach.specs.Lets.{union}
+use Rattle.rules.specs.declared.Sides.{Sides}
+use Rattle.rules.specs.Lets.{union}
 
 -- the standing policies of a direction
 unfoldable pub directionSet : Model → Direction → ℕ → Bool

@@ -1,4 +1,2 @@
-// A row and a column of the matrix by the written rules, from candidate sets.
-pub mod lines;
-pub mod rules;
+// What a row and a column of the matrix are worked out from, by the entries of a memory.
 pub mod sides;

@@ -7,8 +7,7 @@ ghost use Rattle.block.specs.Reader.{directionOf};
 ghost use Rattle.model.specs.Table.{stands};
 ghost use Rattle.formed.specs.Registry.{modelIn, wellFormed};
 ghost use Rattle.reach.specs.Sides.{directionSet, SidesOf, Exchanged};
-use crate::rules;
-use crate::rules::Sides;
+use rules::Sides;
 
 // The standing policies of a direction, 1 ingress, 2 egress.
 fn of_direction(memory: &[u64], direction: u64) -> [u64; 4]
@@ -16,8 +15,13 @@ fn of_direction(memory: &[u64], direction: u64) -> [u64; 4]
     ensures { λ r. ⌜ bitAt r ≡ directionSet (modelIn (now (memory .entry))) (directionOf direction) ⌝ }
 {
     [
-        formed::slots_with(memory, store::POLICIES, 11, direction),
-        formed::slots_with(memory, store::POLICIES + 704, 11, direction),
+        formed::slots_with(memory, store::POLICIES, store::POLICY_WORDS, direction),
+        formed::slots_with(
+            memory,
+            store::POLICIES + 64 * store::POLICY_WORDS,
+            store::POLICY_WORDS,
+            direction,
+        ),
         0,
         0,
     ]

@@ -4,32 +4,27 @@ ghost use mathlib.Core.Path.{_≡_};
 ghost use lib.ListN.{length};
 ghost use Rattle.buffer.specs.Buffer.{overwritten};
 ghost use Rattle.model.specs.Findings.{findingCode};
-ghost use Rattle.model.specs.Calls.{openWith, admit, removeContainer, removePolicy, askReaches, askUser, nextFinding, listFindings, counts, rebuild, audit, written, refusalNumber};
+ghost use Rattle.model.specs.Calls.{openWith, change, admit, removeContainer, removePolicy, rebuild, ask, askReaches, askUser, nextFinding, listFindings, counts, audit, written};
 ghost use Rattle.store.specs.Layout.{memoryWords};
 ghost use Rattle.steps.specs.MemoryStep.{memoryStep};
-ghost use Rattle.registry_c.specs.Codes.{refusalCode, truthCode, codedStep};
+ghost use Rattle.codes.specs.Codes.{refusalCode, truthCode, codedStep};
 use findings::Cursor;
 use model::ContainerSlot;
 use model::Finding;
 use model::PolicySlot;
-use model::Refusal;
 use registry::Admitted;
-use registry::Audited;
-use registry::Carried;
 use registry::Counted;
 use registry::FindingsPut;
 use registry::NextFinding;
-use registry::Opened;
-use registry::Reached;
-use registry::Rebuilt;
-use registry::Removed;
+use registry::Outcome;
+use registry::Reply;
 
 // ---- the numbers
 
-fn refused(refusal: Refusal) -> u64
-    ensures { λ r. ⌜ r ≡ refusalCode (refusalNumber refusal) ⌝ }
+fn refused(number: u8) -> u64
+    ensures { λ r. ⌜ r ≡ refusalCode number ⌝ }
 {
-    registry::number(refusal) * 72057594037927936
+    number as u64 * 72057594037927936
 }
 
 fn truth(says: bool) -> u64
@@ -59,18 +54,18 @@ pub extern "C" fn bihokura_open(memory: &mut [u64], block: &[u8]) -> u64
 {
     let answer = registry::open(memory, block);
     match answer {
-        Opened::Refused(why) => refused(why),
-        Opened::Done => 0,
+        Outcome::Refused(number) => refused(number),
+        Outcome::Done => 0,
     }
 }
 
 #[no_mangle]
 pub extern "C" fn bihokura_admit(memory: &mut [u64], block: &[u8]) -> u64
-    ensures { λ r. ⌜ (now (memory .exit), r) ≡ codedStep (now (memory .entry)) (admit (now (block .entry))) ⌝ }
+    ensures { λ r. ⌜ (now (memory .exit), r) ≡ codedStep (now (memory .entry)) (change (admit (now (block .entry)))) ⌝ }
 {
     let answer = registry::admit(memory, block);
     match answer {
-        Admitted::Refused(why) => refused(why),
+        Admitted::Refused(number) => refused(number),
         Admitted::Container(slot) => slot.0 as u64,
         Admitted::Policy(slot) => slot.0 as u64,
     }
@@ -78,51 +73,51 @@ pub extern "C" fn bihokura_admit(memory: &mut [u64], block: &[u8]) -> u64
 
 #[no_mangle]
 pub extern "C" fn bihokura_remove_container(memory: &mut [u64], slot: u64) -> u64
-    ensures { λ r. ⌜ (now (memory .exit), r) ≡ codedStep (now (memory .entry)) (removeContainer slot) ⌝ }
+    ensures { λ r. ⌜ (now (memory .exit), r) ≡ codedStep (now (memory .entry)) (change (removeContainer slot)) ⌝ }
 {
     let answer = registry::remove_container(memory, ContainerSlot(slot as usize));
     match answer {
-        Removed::Refused(why) => refused(why),
-        Removed::Done => 0,
+        Outcome::Refused(number) => refused(number),
+        Outcome::Done => 0,
     }
 }
 
 #[no_mangle]
 pub extern "C" fn bihokura_remove_policy(memory: &mut [u64], slot: u64) -> u64
-    ensures { λ r. ⌜ (now (memory .exit), r) ≡ codedStep (now (memory .entry)) (removePolicy slot) ⌝ }
+    ensures { λ r. ⌜ (now (memory .exit), r) ≡ codedStep (now (memory .entry)) (change (removePolicy slot)) ⌝ }
 {
     let answer = registry::remove_policy(memory, PolicySlot(slot as usize));
     match answer {
-        Removed::Refused(why) => refused(why),
-        Removed::Done => 0,
+        Outcome::Refused(number) => refused(number),
+        Outcome::Done => 0,
     }
 }
 
 #[no_mangle]
 pub extern "C" fn bihokura_reaches(memory: &[u64], a: u64, b: u64) -> u64
-    ensures { λ r. ⌜ (now (memory .entry), r) ≡ codedStep (now (memory .entry)) (askReaches a b) ⌝ }
+    ensures { λ r. ⌜ (now (memory .entry), r) ≡ codedStep (now (memory .entry)) (ask (askReaches a b)) ⌝ }
 {
     let answer = registry::reaches(memory, ContainerSlot(a as usize), ContainerSlot(b as usize));
     match answer {
-        Reached::Refused(why) => refused(why),
-        Reached::Says(says) => truth(says),
+        Reply::Refused(number) => refused(number),
+        Reply::Says(says) => truth(says),
     }
 }
 
 #[no_mangle]
 pub extern "C" fn bihokura_carries_user(memory: &[u64], slot: u64, value: u64) -> u64
-    ensures { λ r. ⌜ (now (memory .entry), r) ≡ codedStep (now (memory .entry)) (askUser slot value) ⌝ }
+    ensures { λ r. ⌜ (now (memory .entry), r) ≡ codedStep (now (memory .entry)) (ask (askUser slot value)) ⌝ }
 {
     let answer = registry::carries_user(memory, ContainerSlot(slot as usize), value);
     match answer {
-        Carried::Refused(why) => refused(why),
-        Carried::Says(says) => truth(says),
+        Reply::Refused(number) => refused(number),
+        Reply::Says(says) => truth(says),
     }
 }
 
 #[no_mangle]
 pub extern "C" fn bihokura_next_finding(memory: &[u64], kind: u16, a: u16, b: u16) -> u64
-    ensures { λ r. ⌜ (now (memory .entry), r) ≡ codedStep (now (memory .entry)) (nextFinding (record { kind = kind; a = a; b = b })) ⌝ }
+    ensures { λ r. ⌜ (now (memory .entry), r) ≡ codedStep (now (memory .entry)) (ask (nextFinding (record { kind = kind; a = a; b = b }))) ⌝ }
 {
     let answer = registry::next_finding(
         memory,
@@ -133,7 +128,7 @@ pub extern "C" fn bihokura_next_finding(memory: &[u64], kind: u16, a: u16, b: u1
         },
     );
     match answer {
-        NextFinding::Refused(why) => refused(why),
+        NextFinding::Refused(number) => refused(number),
         NextFinding::Found(finding, _) => finding_code(finding),
         NextFinding::Nothing => 0,
     }
@@ -147,8 +142,8 @@ pub extern "C" fn bihokura_findings(
     b: u16,
     list: &mut [u64],
 ) -> u64
-    ensures { λ r. ⌜ (now (memory .entry), r) ≡ codedStep (now (memory .entry)) (listFindings (record { kind = kind; a = a; b = b }) (length (now (list .entry)))) ⌝ }
-    ensures { λ r. ⌜ now (list .exit) ≡ overwritten (now (list .entry)) (written (memoryStep (now (memory .entry)) (listFindings (record { kind = kind; a = a; b = b }) (length (now (list .entry)))) .1)) ⌝ }
+    ensures { λ r. ⌜ (now (memory .entry), r) ≡ codedStep (now (memory .entry)) (ask (listFindings (record { kind = kind; a = a; b = b }) (length (now (list .entry))))) ⌝ }
+    ensures { λ r. ⌜ now (list .exit) ≡ overwritten (now (list .entry)) (written (memoryStep (now (memory .entry)) (ask (listFindings (record { kind = kind; a = a; b = b }) (length (now (list .entry))))) .1)) ⌝ }
 {
     let answer = registry::findings(
         memory,
@@ -160,18 +155,18 @@ pub extern "C" fn bihokura_findings(
         list,
     );
     match answer {
-        FindingsPut::Refused(why) => refused(why),
+        FindingsPut::Refused(number) => refused(number),
         FindingsPut::Findings(count, _) => count as u64,
     }
 }
 
 #[no_mangle]
 pub extern "C" fn bihokura_counts(memory: &[u64]) -> u64
-    ensures { λ r. ⌜ (now (memory .entry), r) ≡ codedStep (now (memory .entry)) counts ⌝ }
+    ensures { λ r. ⌜ (now (memory .entry), r) ≡ codedStep (now (memory .entry)) (ask counts) ⌝ }
 {
     let answer = registry::counts(memory);
     match answer {
-        Counted::Refused(why) => refused(why),
+        Counted::Refused(number) => refused(number),
         Counted::Counts(containers, policies, pairs) => {
             containers + policies * 65536 + pairs * 4294967296
         }
@@ -180,22 +175,22 @@ pub extern "C" fn bihokura_counts(memory: &[u64]) -> u64
 
 #[no_mangle]
 pub extern "C" fn bihokura_rebuild(memory: &mut [u64]) -> u64
-    ensures { λ r. ⌜ (now (memory .exit), r) ≡ codedStep (now (memory .entry)) rebuild ⌝ }
+    ensures { λ r. ⌜ (now (memory .exit), r) ≡ codedStep (now (memory .entry)) (change rebuild) ⌝ }
 {
     let answer = registry::rebuild(memory);
     match answer {
-        Rebuilt::Refused(why) => refused(why),
-        Rebuilt::Done => 0,
+        Outcome::Refused(number) => refused(number),
+        Outcome::Done => 0,
     }
 }
 
 #[no_mangle]
 pub extern "C" fn bihokura_audit(memory: &[u64]) -> u64
-    ensures { λ r. ⌜ (now (memory .entry), r) ≡ codedStep (now (memory .entry)) audit ⌝ }
+    ensures { λ r. ⌜ (now (memory .entry), r) ≡ codedStep (now (memory .entry)) (ask audit) ⌝ }
 {
     let answer = registry::audit(memory);
     match answer {
-        Audited::Refused(why) => refused(why),
-        Audited::Says(says) => truth(says),
+        Reply::Refused(number) => refused(number),
+        Reply::Says(says) => truth(says),
     }
 }

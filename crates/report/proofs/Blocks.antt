@@ -1,4 +1,4 @@
--- Bytes as blocks, however they came. Assumes nothing.
+-- Bytes as blocks, however they came.
 use mathlib.Core.Path.{_≡_, refl, sym, ap, ap₂, _∙_}
 use mathlib.Core.List.{List, [], _∷_, _++_, append-nil}
 use Prim.Native.Nat.{ℕ, zero, suc, _+_, _≤_, _<_}
@@ -20,7 +20,7 @@ blocks-enough (suc f) (suc g) (x ∷ l) h k =
     let n = length-drop 512 (x ∷ l) in
     ap (λ (r : List (List ℕ)). take 512 (x ∷ l) ∷ r) (blocks-enough f g (drop 512 (x ∷ l)) (omega (arith, n, h)) (omega (arith, n, k)))
 
-pub blocks-more : (l : List ℕ) → 0 < length l → blocksOf l ≡ take 512 l ∷ blocksOf (drop 512 l)
+blocks-more : (l : List ℕ) → 0 < length l → blocksOf l ≡ take 512 l ∷ blocksOf (drop 512 l)
 unfolding blocksOf blocksBy
 blocks-more [] h = absurd (omega arith)
 blocks-more (x ∷ l) h =
@@ -31,9 +31,9 @@ pub blocks-end : blocksOf [] ≡ []
 unfolding blocksOf blocksBy
 blocks-end = refl
 
-pub nothing : {A : Type 0} (l : List A) → length l ≡ 0 → l ≡ []
-nothing [] e = refl
-nothing (x ∷ l) e = absurd (omega arith)
+pub no-bytes : {A : Type 0} (l : List A) → length l ≡ 0 → l ≡ []
+no-bytes [] e = refl
+no-bytes (x ∷ l) e = absurd (omega arith)
 
 -- the first n bytes of a piece p complete a block that was started with s; q comes after the piece
 module _ (s p q : List ℕ) (n : ℕ) (h : n ≤ length p) where
@@ -50,11 +50,11 @@ module _ (s p q : List ℕ) (n : ℕ) (h : n ≤ length p) where
       let k = length-append p q in
       blocks-more (s ++ (p ++ q)) (omega (arith, l, k, h, e)) ∙ ap₂ (λ (x y : List ℕ). x ∷ blocksOf y) (whole-take e) (whole-drop e)
 
-  all-of : n ≡ length p → take n p ≡ p
-  all-of e = take-all n p (omega (arith, e))
+  piece-taken-whole : n ≡ length p → take n p ≡ p
+  piece-taken-whole e = take-all n p (omega (arith, e))
 
-  none-of : n ≡ length p → drop n p ≡ []
-  none-of e = nothing (drop n p) (omega (arith, length-drop n p, e))
+  piece-none-left : n ≡ length p → drop n p ≡ []
+  piece-none-left e = no-bytes (drop n p) (omega (arith, length-drop n p, e))
 
   -- a short last block, which ends with the piece
   pub blocks-short : q ≡ [] → n ≡ length p → length s + n < 512 → 0 < length s + n → blocksOf (s ++ (p ++ q)) ≡ (s ++ take n p) ∷ blocksOf (drop n p ++ q)
@@ -63,5 +63,5 @@ module _ (s p q : List ℕ) (n : ℕ) (h : n ≤ length p) where
       let all : length (s ++ p) ≤ 512 = omega (arith, l, e, w) in
       ap (λ (x : List ℕ). blocksOf (s ++ x)) (ap (λ (x : List ℕ). p ++ x) z ∙ append-nil p)
       ∙ blocks-more (s ++ p) (omega (arith, l, e, v))
-      ∙ ap₂ (λ (x y : List ℕ). x ∷ blocksOf y) (take-all 512 (s ++ p) all ∙ ap (λ (x : List ℕ). s ++ x) (sym (all-of e)))
-      (nothing (drop 512 (s ++ p)) (omega (arith, length-drop 512 (s ++ p), all)) ∙ sym (ap₂ (λ (x y : List ℕ). x ++ y) (none-of e) z))
+      ∙ ap₂ (λ (x y : List ℕ). x ∷ blocksOf y) (take-all 512 (s ++ p) all ∙ ap (λ (x : List ℕ). s ++ x) (sym (piece-taken-whole e)))
+      (no-bytes (drop 512 (s ++ p)) (omega (arith, length-drop 512 (s ++ p), all)) ∙ sym (ap₂ (λ (x y : List ℕ). x ++ y) (piece-none-left e) z))

@@ -1,4 +1,4 @@
--- What is still to come of the text: it is what a step puts, and then what is still to come after it. Assumes nothing.
+-- What is still to come of the text: it is what a step puts, and then what is still to come after it.
 use mathlib.Core.Path.{_≡_, refl, sym, ap, _∙_, subst}
 use mathlib.Core.Bool.{Bool, true, false, false≢true, cond, not, _&&_}
 use mathlib.Core.List.{List, [], _∷_, _++_, map, append-assoc, append-nil}
@@ -16,56 +16,61 @@ use Rattle.block.specs.Reader.{readSettings}
 use Rattle.model.specs.declared.Finding.{Finding}
 use Rattle.model.specs.Findings.{start, moved, findings, findingCode}
 use Rattle.model.specs.Model.{Model, empty, computedBits}
-use Rattle.model.specs.Calls.{Answer, openWith, admit, counts, listFindings, findingsAnswer}
-use Rattle.model.specs.ModelStep.{modelStep}
+use Rattle.model.specs.Calls.{Answer, openWith, change, admit, ask, counts, listFindings, findingsAnswer}
+use Rattle.model.specs.ModelStep.{modelAnswer, modelStep}
 use Rattle.model.specs.Registry.{opened}
 use Rattle.store.specs.Layout.{memoryWords}
 use Rattle.formed.specs.Registry.{image, wellFormed}
+use Rattle.formed.proofs.Tests.{both}
 use Rattle.steps.specs.MemoryStep.{memoryStep}
 use Rattle.steps.proofs.Outcomes.{open-refused, open-done, findings-answers}
 use Rattle.findings.specs.declared.Cursor.{Cursor}
-use Rattle.findings.specs.Steps.{Place, placeOf}
-use Rattle.findings.proofs.Walked.{nextIn}
-use Rattle.report.specs.declared.State.{State}
-use Rattle.report.specs.declared.State.the-variants.{Taking, Counting, Listing, Finished}
-use Rattle.text.specs.Lines.{refusedLine, findingLines, codeLines}
-use Rattle.report.specs.Sheet.{blocksOf, refusedBy, closing, admitting, opening, sheetOf}
-use Rattle.report.specs.Step.{Left, left, taken, opens, withBlock, told, admits, share, waits, endOf, takeWith, takeStep, counting, countStep, cursorTo, linesIn, listing, listStep, stepOf}
+use Rattle.findings.specs.Steps.{Place, cursorPlace}
+use Rattle.findings.proofs.NextFinding.{nextIn}
+use Rattle.intake.specs.declared.State.{State}
+use Rattle.intake.specs.declared.State.the-variants.{Taking, Counting, Listing, Finished}
+use Rattle.pieces.specs.Left.{Left, left}
+use Rattle.intake.specs.Blocks.{taken, opens, admits, endOf}
+use Rattle.pieces.specs.Pieces.{withBlock, share, waits, takeWith, takeStep}
+use Rattle.pieces.proofs.PieceLaws.{take-on, with-more, with-end, with-block}
+use Rattle.closing.specs.Closing.{counting, countStep, cursorTo, linesIn, listing, listStep}
+use Rattle.text.specs.Lines.{refusedLine, refusedBy, findingLines, codeLines}
+use Rattle.report.specs.Sheet.{blocksOf, closing, linesFrom, sheetFrom, sheetOf}
+use Rattle.report.specs.Step.{told, reportStep}
 use Rattle.text.proofs.LineLaws.{lines-append, code-lines, small-take}
-use Rattle.report.proofs.StepLaws.{take-on, with-more, with-end, with-block}
-use Rattle.report.proofs.Blocks.{nothing, blocks-end, blocks-whole, blocks-short}
-use Rattle.report.proofs.Leads.{Leads, findings-lead, leads-walk, leads-on, leads-small, both}
+use Rattle.report.proofs.Blocks.{no-bytes, blocks-end, blocks-whole, blocks-short}
+use Rattle.report.proofs.Leads.{Leads, findings-lead, leads-walk, leads-on, leads-small}
 use Rattle.report.proofs.Kept.{Keeps, keeps-after, keeps-answer, keeps-open, keeps-formed, keeps-next}
 
 -- after n blocks, with the bytes l of the next ones
-pub data After (n : ℕ) (m l t : List ℕ) : Type 0 where
-  fresh : n ≡ 0 → length m ≡ memoryWords → t ≡ sheetOf (blocksOf l) → After n m l t
-  later : (n ≡ 0 → ⊥) → (w : Model) → Keeps m w → t ≡ admitting (n + 1) w (blocksOf l) → After n m l t
+pub data AfterBlocks (n : ℕ) (m l t : List ℕ) : Type 0 where
+  before-first : n ≡ 0 → length m ≡ memoryWords → t ≡ sheetOf (blocksOf l) → AfterBlocks n m l t
+  after-some : (n ≡ 0 → ⊥) → (w : Model) → Keeps m w → t ≡ linesFrom (n + 1) w (blocksOf l) → AfterBlocks n m l t
 
-pub record Closes (m t : List ℕ) : Type 0 where
+pub record DueCounts (m t : List ℕ) : Type 0 where
   pub w : Model
   pub keeps : Keeps m w
   pub text : t ≡ closing w
 
-pub record Listed (m : List ℕ) (c : Cursor) (t : List ℕ) : Type 0 where
+pub record DueFindings (m : List ℕ) (c : Cursor) (t : List ℕ) : Type 0 where
   pub formed : wellFormed m ≡ true
   pub left : List Finding
-  pub leads : Leads (nextIn m) (placeOf c) left
+  pub leads : Leads (nextIn m) (cursorPlace c) left
   pub text : t ≡ findingLines left
 
 -- the blocks have numbers
 abbrev pub Few : ℕ → ℕ → List ℕ → Type 0
 Few n f i = n + (f + length i + 511) / 512 ≤ 36028797018963968
 
-pub record Takes (n f : ℕ) (m k i t : List ℕ) : Type 0 where
+pub record DueBlocks (n f : ℕ) (m k i t : List ℕ) : Type 0 where
   pub part : f < 512
   pub few : Few n f i
-  pub after : After n m (take f k ++ i) t
+  pub after : AfterBlocks n m (take f k ++ i) t
 
 abbrev pub Due : State → (m k i t : List ℕ) → Type 0
-Due (Taking n f) m k i t = Takes n f m k i t
-Due Counting m k i t = Closes m t
-Due (Listing c) m k i t = Listed m c t
+Due (Taking n f) m k i t = DueBlocks n f m k i t
+Due Counting m k i t = DueCounts m t
+Due (Listing c) m k i t = DueFindings m c t
 Due Finished m k i t = t ≡ []
 
 -- The text t is what x put and then what is due.
@@ -78,9 +83,9 @@ pub record Onward (t : List ℕ) (x : Left) (i : List ℕ) : Type 0 where
 -- ---- a block
 
 module _ (k b i : List ℕ) (whole : length k ≡ 512) where
-  block-open : (m t : List ℕ) (c : ℕ) → length m ≡ memoryWords → Few 1 0 i → (o : Read Settings) → readSettings b ≡ o → t ≡ opening o (blocksOf i)
+  block-open : (m t : List ℕ) (c : ℕ) → length m ≡ memoryWords → Few 1 0 i → (o : Read Settings) → readSettings b ≡ o → t ≡ sheetFrom o (blocksOf i)
       → Onward t (withBlock k c (opens (memoryStep m (openWith b)))) i
-  unfolding opening
+  unfolding sheetFrom
   block-open m t c h w (refused r) e q =
       subst (λ (x : List ℕ × Answer). Onward t (withBlock k c (opens x)) i) (sym (open-refused m b h r e)) (record {
         rest = [];
@@ -94,51 +99,51 @@ module _ (k b i : List ℕ) (whole : length k ≡ 512) where
         rest = t;
         text = refl;
         size = whole;
-        due = record { part = omega arith; few = w; after = later (λ z. absurd (omega arith)) (empty s) y q };
+        due = record { part = omega arith; few = w; after = after-some (λ z. absurd (omega arith)) (empty s) y q };
       })
 
-  block-admit : (m t : List ℕ) (n c : ℕ) (w : Model) → Keeps m w → Few (n + 1) 0 i → t ≡ admitting (n + 1) w (b ∷ blocksOf i)
-      → Onward t (withBlock k c (admits n (memoryStep m (admit b)))) i
-  unfolding admitting
+  block-admit : (m t : List ℕ) (n c : ℕ) (w : Model) → Keeps m w → Few (n + 1) 0 i → t ≡ linesFrom (n + 1) w (b ∷ blocksOf i)
+      → Onward t (withBlock k c (admits n (memoryStep m (change (admit b))))) i
+  unfolding linesFrom
   block-admit m t n c w g h q = record {
-    rest = admitting (n + 1 + 1) (modelStep w (admit b) .0) (blocksOf i);
-    text = q ∙ ap (λ (a : Answer). refusedBy (n + 1) a ++ admitting (n + 1 + 1) (modelStep w (admit b) .0) (blocksOf i)) (sym (keeps-answer m w g (admit b)));
+    rest = linesFrom (n + 1 + 1) (modelStep w (change (admit b)) .0) (blocksOf i);
+    text = q ∙ ap (λ (a : Answer). refusedBy (n + 1) a ++ linesFrom (n + 1 + 1) (modelStep w (change (admit b)) .0) (blocksOf i)) (sym (keeps-answer m w g (change (admit b))));
     size = whole;
-    due = record { part = omega arith; few = h; after = later (λ z. absurd (omega arith)) (modelStep w (admit b) .0) (keeps-after m w g (admit b)) refl };
+    due = record { part = omega arith; few = h; after = after-some (λ z. absurd (omega arith)) (modelStep w (change (admit b)) .0) (keeps-after m w g (change (admit b))) refl };
   }
 
-  block-taken : (m t : List ℕ) (n c : ℕ) (l : List ℕ) → After n m l t → Few (n + 1) 0 i → blocksOf l ≡ b ∷ blocksOf i → Onward t (withBlock k c (taken m b n)) i
+  block-taken : (m t : List ℕ) (n c : ℕ) (l : List ℕ) → AfterBlocks n m l t → Few (n + 1) 0 i → blocksOf l ≡ b ∷ blocksOf i → Onward t (withBlock k c (taken m b n)) i
   unfolding taken sheetOf
-  block-taken m t n c l (fresh z h q) w e =
-      subst (λ (u : Bool). Onward t (withBlock k c (cond u (opens (memoryStep m (openWith b))) (admits n (memoryStep m (admit b))))) i) (sym (eq-eqb n 0 z))
+  block-taken m t n c l (before-first z h q) w e =
+      subst (λ (u : Bool). Onward t (withBlock k c (cond u (opens (memoryStep m (openWith b))) (admits n (memoryStep m (change (admit b)))))) i) (sym (eq-eqb n 0 z))
       (block-open m t c h (subst (λ j. Few (j + 1) 0 i) z w) (readSettings b) refl (q ∙ ap sheetOf e))
-  block-taken m t n c l (later z v g q) w e =
-      subst (λ (u : Bool). Onward t (withBlock k c (cond u (opens (memoryStep m (openWith b))) (admits n (memoryStep m (admit b))))) i) (sym (ne-eqb n 0 z))
-      (block-admit m t n c v g w (q ∙ ap (admitting (n + 1) v) e))
+  block-taken m t n c l (after-some z v g q) w e =
+      subst (λ (u : Bool). Onward t (withBlock k c (cond u (opens (memoryStep m (openWith b))) (admits n (memoryStep m (change (admit b)))))) i) (sym (ne-eqb n 0 z))
+      (block-admit m t n c v g w (q ∙ ap (linesFrom (n + 1) v) e))
 
 -- ---- a piece
 
 abbrev pub atEnd : Bool → List ℕ × State
 atEnd u = cond u (refusedLine 1 3, Finished) ([], Counting)
 
-module _ (m k p q t : List ℕ) (ended : Bool) (n f : ℕ) (whole : length k ≡ 512) (fin : ended ≡ true → q ≡ []) (g : Takes n f m k (p ++ q) t) where
+module _ (m k p q t : List ℕ) (ended : Bool) (n f : ℕ) (whole : length k ≡ 512) (fin : ended ≡ true → q ≡ []) (g : DueBlocks n f m k (p ++ q) t) where
   abbrev c : ℕ
   c = share f (length p)
 
-  abbrev filled : List ℕ
-  filled = paste k f p c
+  abbrev filledBlock : List ℕ
+  filledBlock = paste k f p c
 
-  piece-size : length filled ≡ 512
+  piece-size : length filledBlock ≡ 512
   piece-size = length-paste k f p c (omega (arith, whole, g .part)) (omega arith) ∙ whole
 
-  piece-taken : take (f + c) filled ≡ take f k ++ take c p
+  piece-taken : take (f + c) filledBlock ≡ take f k ++ take c p
   piece-taken = take-paste k f p c (omega (arith, whole, g .part)) (omega arith)
 
   start-size : length (take f k) ≡ f
   start-size = length-take-le f k (omega (arith, whole, g .part))
 
   -- the bytes that are still to come as blocks
-  piece-same : take f k ++ (p ++ q) ≡ take (f + c) filled ++ (drop c p ++ q)
+  piece-same : take f k ++ (p ++ q) ≡ take (f + c) filledBlock ++ (drop c p ++ q)
   piece-same =
       ap (λ (x : List ℕ). take f k ++ (x ++ q)) (sym (take-append-drop c p)) ∙ ap (λ (x : List ℕ). take f k ++ x) (append-assoc (take c p) (drop c p) q)
       ∙ sym (append-assoc (take f k) (take c p) (drop c p ++ q)) ∙ ap (λ (x : List ℕ). x ++ (drop c p ++ q)) (sym piece-taken)
@@ -149,12 +154,12 @@ module _ (m k p q t : List ℕ) (ended : Bool) (n f : ℕ) (whole : length k ≡
   piece-all : length (p ++ q) ≡ length p + length q
   piece-all = length-append p q
 
-  after-as : {l : List ℕ} → take f k ++ (p ++ q) ≡ l → After n m l t
-  after-as {l} e = subst (λ (x : List ℕ). After n m x t) e (g .after)
+  after-as : {l : List ℕ} → take f k ++ (p ++ q) ≡ l → AfterBlocks n m l t
+  after-as {l} e = subst (λ (x : List ℕ). AfterBlocks n m x t) e (g .after)
 
-  pub piece-waits : waits (f + c) ended ≡ true → Onward t (left m filled [] (Taking n (f + c)) c) (drop c p ++ q)
+  pub piece-waits : waits (f + c) ended ≡ true → Onward t (left m filledBlock [] (Taking n (f + c)) c) (drop c p ++ q)
   piece-waits w =
-      let h = both (ltb (f + c) 512) (not ended) (λ e _. ltb-true (f + c) 512 e) w in
+      let h = ltb-true (f + c) 512 (both (ltb (f + c) 512) (not ended) w .0) in
       record {
         rest = t;
         text = refl;
@@ -171,26 +176,26 @@ module _ (m k p q t : List ℕ) (ended : Bool) (n f : ℕ) (whole : length k ≡
       pick true e true d x = yes-short (ltb-true (f + c) 512 e) (fin d)
       pick true e false d x = absurd (false≢true (sym x))
 
-  pub piece-end : waits (f + c) ended ≡ false → f + c ≡ 0 → Onward t (left m filled (endOf n .0) (endOf n .1) c) (drop c p ++ q)
-  unfolding sheetOf admitting
+  pub piece-end : waits (f + c) ended ≡ false → f + c ≡ 0 → Onward t (left m filledBlock (endOf n .0) (endOf n .1) c) (drop c p ++ q)
+  unfolding sheetOf linesFrom
   piece-end w z = finish (g .after)
     where
       none-left : blocksOf (take f k ++ (p ++ q)) ≡ []
       none-left =
           no-wait w (λ h. absurd (omega (arith, h, z))) (λ h e.
-          ap blocksOf (nothing (take f k ++ (p ++ q)) (let i = length-append (take f k) (p ++ q) in let j = ap length e in omega (arith, i, j, start-size, piece-all, z, h, g .part))) ∙ blocks-end)
+          ap blocksOf (no-bytes (take f k ++ (p ++ q)) (let i = length-append (take f k) (p ++ q) in let j = ap length e in omega (arith, i, j, start-size, piece-all, z, h, g .part))) ∙ blocks-end)
 
-      finish : After n m (take f k ++ (p ++ q)) t → Onward t (left m filled (endOf n .0) (endOf n .1) c) (drop c p ++ q)
-      finish (fresh y h e) =
-          subst (λ (u : Bool). Onward t (left m filled (atEnd u .0) (atEnd u .1) c) (drop c p ++ q)) (sym (eq-eqb n 0 y))
+      finish : AfterBlocks n m (take f k ++ (p ++ q)) t → Onward t (left m filledBlock (endOf n .0) (endOf n .1) c) (drop c p ++ q)
+      finish (before-first y h e) =
+          subst (λ (u : Bool). Onward t (left m filledBlock (atEnd u .0) (atEnd u .1) c) (drop c p ++ q)) (sym (eq-eqb n 0 y))
           (record { rest = []; text = e ∙ ap sheetOf none-left ∙ sym (append-nil (refusedLine 1 3)); size = piece-size; due = refl })
-      finish (later y v h e) =
-          subst (λ (u : Bool). Onward t (left m filled (atEnd u .0) (atEnd u .1) c) (drop c p ++ q)) (sym (ne-eqb n 0 y))
-          (record { rest = t; text = refl; size = piece-size; due = record { w = v; keeps = h; text = e ∙ ap (admitting (n + 1) v) none-left } })
+      finish (after-some y v h e) =
+          subst (λ (u : Bool). Onward t (left m filledBlock (atEnd u .0) (atEnd u .1) c) (drop c p ++ q)) (sym (ne-eqb n 0 y))
+          (record { rest = t; text = refl; size = piece-size; due = record { w = v; keeps = h; text = e ∙ ap (linesFrom (n + 1) v) none-left } })
 
-  pub piece-block : waits (f + c) ended ≡ false → (f + c ≡ 0 → ⊥) → Onward t (withBlock filled c (taken m (take (f + c) filled) n)) (drop c p ++ q)
+  pub piece-block : waits (f + c) ended ≡ false → (f + c ≡ 0 → ⊥) → Onward t (withBlock filledBlock c (taken m (take (f + c) filledBlock) n)) (drop c p ++ q)
   piece-block w z =
-      block-taken filled (take (f + c) filled) (drop c p ++ q) piece-size m t n c (take f k ++ (p ++ q)) (g .after)
+      block-taken filledBlock (take (f + c) filledBlock) (drop c p ++ q) piece-size m t n c (take f k ++ (p ++ q)) (g .after)
       (no-wait w (λ h. omega (arith, h, g .few, g .part, piece-left, piece-all)) (λ h e. let j = ap length e in omega (arith, h, z, j, g .few, g .part, piece-left, piece-all)))
       (no-wait w
       (λ h. blocks-whole (take f k) p q c (omega arith) (omega (arith, h, g .part, start-size)) ∙ ap (λ (x : List ℕ). x ∷ blocksOf (drop c p ++ q)) (sym piece-taken))
@@ -201,22 +206,22 @@ module _ (m k p q t : List ℕ) (ended : Bool) (n f : ℕ) (whole : length k ≡
 
   piece-onward : let x = takeStep m k p ended n f in Onward t x (drop (x .used) p ++ q)
   piece-onward =
-      subst (λ (x : Left). Onward t x (drop (x .used) p ++ q)) (sym (take-on m k p ended n f not-last c refl filled refl))
+      subst (λ (x : Left). Onward t x (drop (x .used) p ++ q)) (sym (take-on m k p ended n f not-last c refl filledBlock refl))
       (pick (waits (f + c) ended) refl (eqb (f + c) 0) refl)
     where
-      pick : (u : Bool) → waits (f + c) ended ≡ u → (v : Bool) → eqb (f + c) 0 ≡ v → let x = takeWith m filled ended n (f + c) c in Onward t x (drop (x .used) p ++ q)
-      pick true e v d = subst (λ (x : Left). Onward t x (drop (x .used) p ++ q)) (sym (with-more m filled ended n (f + c) c e)) (piece-waits e)
-      pick false e true d = subst (λ (x : Left). Onward t x (drop (x .used) p ++ q)) (sym (with-end m filled ended n (f + c) c e (eqb-true (f + c) 0 d))) (piece-end e (eqb-true (f + c) 0 d))
-      pick false e false d = subst (λ (x : Left). Onward t x (drop (x .used) p ++ q)) (sym (with-block m filled ended n (f + c) c e (eqb-false (f + c) 0 d))) (piece-block e (eqb-false (f + c) 0 d))
+      pick : (u : Bool) → waits (f + c) ended ≡ u → (v : Bool) → eqb (f + c) 0 ≡ v → let x = takeWith m filledBlock ended n (f + c) c in Onward t x (drop (x .used) p ++ q)
+      pick true e v d = subst (λ (x : Left). Onward t x (drop (x .used) p ++ q)) (sym (with-more m filledBlock ended n (f + c) c e)) (piece-waits e)
+      pick false e true d = subst (λ (x : Left). Onward t x (drop (x .used) p ++ q)) (sym (with-end m filledBlock ended n (f + c) c e (eqb-true (f + c) 0 d))) (piece-end e (eqb-true (f + c) 0 d))
+      pick false e false d = subst (λ (x : Left). Onward t x (drop (x .used) p ++ q)) (sym (with-block m filledBlock ended n (f + c) c e (eqb-false (f + c) 0 d))) (piece-block e (eqb-false (f + c) 0 d))
 
 -- ---- counts and findings
 
-count-onward : (m k t i : List ℕ) → length k ≡ 512 → Closes m t → Onward t (told m k (countStep m)) i
-unfolding countStep closing modelStep
+count-onward : (m k t i : List ℕ) → length k ≡ 512 → DueCounts m t → Onward t (told m k (countStep m)) i
+unfolding countStep closing modelStep modelAnswer
 count-onward m k t i whole g =
     let w = g .w in
     let l = findings w (computedBits w) in
-    subst (λ (a : Answer). Onward t (told m k (counting a)) i) (sym (keeps-answer m w (g .keeps) counts)) (record {
+    subst (λ (a : Answer). Onward t (told m k (counting a)) i) (sym (keeps-answer m w (g .keeps) (ask counts))) (record {
       rest = findingLines l;
       text = g .text;
       size = whole;
@@ -232,7 +237,7 @@ count-onward m k t i whole g =
 abbrev pub DueLines : List ℕ → State → List Finding → Type 0
 DueLines m (Taking n f) l = ⊥
 DueLines m Counting l = ⊥
-DueLines m (Listing c) l = Leads (nextIn m) (placeOf c) l
+DueLines m (Listing c) l = Leads (nextIn m) (cursorPlace c) l
 DueLines m Finished l = l ≡ []
 
 -- of the lines of l, x put those of some findings, no more than n
@@ -242,36 +247,36 @@ pub record Lines (m : List ℕ) (n : ℕ) (l : List Finding) (x : List ℕ × St
   pub due : DueLines m (x .1) rest
   pub falls : 0 < n → (x .1 ≡ Finished) ⊎ (length rest < length l)
 
-module _ (m : List ℕ) (formed : wellFormed m ≡ true) (n : ℕ) (c : Cursor) (l : List Finding) (h : Leads (nextIn m) (placeOf c) l) where
-  abbrev put : List Finding
-  put = take n l
+module _ (m : List ℕ) (formed : wellFormed m ≡ true) (n : ℕ) (c : Cursor) (l : List Finding) (h : Leads (nextIn m) (cursorPlace c) l) where
+  abbrev firstOnes : List Finding
+  firstOnes = take n l
 
-  answers : memoryStep m (listFindings (placeOf c) n) .1 ≡ findingsAnswer (placeOf c) put
-  answers = ap (λ (r : List ℕ × Answer). r .1) (findings-answers m formed (placeOf c) n) ∙ ap (findingsAnswer (placeOf c)) (leads-walk (nextIn m) n (placeOf c) l h)
+  findings-said : memoryStep m (ask (listFindings (cursorPlace c) n)) .1 ≡ findingsAnswer (cursorPlace c) firstOnes
+  findings-said = ap (λ (r : List ℕ × Answer). r .1) (findings-answers m formed (cursorPlace c) n) ∙ ap (findingsAnswer (cursorPlace c)) (leads-walk (nextIn m) n (cursorPlace c) l h)
 
-  lines-put : findingLines l ≡ codeLines (map findingCode put) ++ findingLines (drop n l)
+  lines-put : findingLines l ≡ codeLines (map findingCode firstOnes) ++ findingLines (drop n l)
   lines-put =
-      ap findingLines (sym (take-append-drop n l)) ∙ lines-append put (drop n l)
-      ∙ ap (λ (t : List ℕ). t ++ findingLines (drop n l)) (sym (code-lines put (small-take n l (leads-small m (placeOf c) l h))))
+      ap findingLines (sym (take-append-drop n l)) ∙ lines-append firstOnes (drop n l)
+      ∙ ap (λ (t : List ℕ). t ++ findingLines (drop n l)) (sym (code-lines firstOnes (small-take n l (leads-small m (cursorPlace c) l h))))
 
-  put-size : length (map findingCode put) ≡ min n (length l)
-  put-size = length-map put findingCode ∙ length-take n l
+  put-size : length (map findingCode firstOnes) ≡ min n (length l)
+  put-size = length-map firstOnes findingCode ∙ length-take n l
 
-  pub lines-listed : Lines m n l (listing n (memoryStep m (listFindings (placeOf c) n) .1))
-  lines-listed = subst (λ (a : Answer). Lines m n l (listing n a)) (sym answers) (pick (ltb (length (map findingCode put)) n) refl)
+  pub lines-listed : Lines m n l (listing n (memoryStep m (ask (listFindings (cursorPlace c) n)) .1))
+  lines-listed = subst (λ (a : Answer). Lines m n l (listing n a)) (sym findings-said) (pick (ltb (length (map findingCode firstOnes)) n) refl)
     where
-      pick : (t : Bool) → ltb (length (map findingCode put)) n ≡ t → Lines m n l (codeLines (map findingCode put), cond t Finished (Listing (cursorTo (moved (placeOf c) put))))
+      pick : (t : Bool) → ltb (length (map findingCode firstOnes)) n ≡ t → Lines m n l (codeLines (map findingCode firstOnes), cond t Finished (Listing (cursorTo (moved (cursorPlace c) firstOnes))))
       pick true e = record {
         rest = drop n l;
         text = lines-put;
-        due = let z = ltb-true (length (map findingCode put)) n e in nothing (drop n l) (omega (arith, z, put-size, length-drop n l));
+        due = let z = ltb-true (length (map findingCode firstOnes)) n e in no-bytes (drop n l) (omega (arith, z, put-size, length-drop n l));
         falls = λ _. inl refl;
       }
       pick false e = record {
         rest = drop n l;
         text = lines-put;
-        due = leads-on (nextIn m) n (placeOf c) l h;
-        falls = λ w. let z = ltb-false (length (map findingCode put)) n e in inr (omega (arith, w, z, put-size, length-drop n l));
+        due = leads-on (nextIn m) n (cursorPlace c) l h;
+        falls = λ w. let z = ltb-false (length (map findingCode firstOnes)) n e in inr (omega (arith, w, z, put-size, length-drop n l));
       }
 
 pub lines-due : (m k i : List ℕ) → wellFormed m ≡ true → (s : State) (l : List Finding) → DueLines m s l → Due s m k i (findingLines l)
@@ -281,7 +286,7 @@ lines-due m k i h Counting l d = absurd d
 lines-due m k i h (Listing c) l d = record { formed = h; left = l; leads = d; text = refl }
 lines-due m k i h Finished l d = ap findingLines d
 
-list-onward : (m k t i : List ℕ) (room : ℕ) (c : Cursor) → length k ≡ 512 → Listed m c t → Onward t (told m k (listStep m room c)) i
+list-onward : (m k t i : List ℕ) (room : ℕ) (c : Cursor) → length k ≡ 512 → DueFindings m c t → Onward t (told m k (listStep m room c)) i
 unfolding listStep
 list-onward m k t i room c whole g =
     let y = lines-listed m (g .formed) (linesIn room) c (g .left) (g .leads) in
@@ -295,8 +300,8 @@ list-onward m k t i room c whole g =
 -- ---- a step
 
 pub step-onward : (m k p q t : List ℕ) (ended : Bool) (room : ℕ) (s : State) → length k ≡ 512 → (ended ≡ true → q ≡ []) → Due s m k (p ++ q) t
-    → let x = stepOf m k p ended room s in Onward t x (drop (x .used) p ++ q)
-unfolding stepOf
+    → let x = reportStep m k p ended room s in Onward t x (drop (x .used) p ++ q)
+unfolding reportStep
 step-onward m k p q t ended room (Taking n f) whole fin d = piece-onward m k p q t ended n f whole fin d
 step-onward m k p q t ended room Counting whole fin d = count-onward m k t (p ++ q) whole d
 step-onward m k p q t ended room (Listing c) whole fin d = list-onward m k t (p ++ q) room c whole d

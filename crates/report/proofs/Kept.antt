@@ -1,4 +1,4 @@
--- The registry that a memory holds is the model's: demand 3's own step, taken on. Assumes nothing.
+-- The registry that a memory holds is the model's: demand 3's own step, taken on.
 use mathlib.Core.Path.{_≡_, ap, _∙_}
 use mathlib.Core.Bool.{true}
 use mathlib.Core.List.{List}
@@ -23,7 +23,7 @@ use Rattle.steps.specs.MemoryStep.{memoryStep}
 use Rattle.steps.proofs.Outcomes.{open-done}
 use Rattle.steps.proofs.Valid.{acceptable-computed, valid-empty, valid-step}
 use Rattle.steps.proofs.Refinement.{Good, step-refines}
-use Rattle.findings.proofs.Walked.{nextIn}
+use Rattle.findings.proofs.NextFinding.{nextIn}
 
 -- the memory m is that of the model
 pub record Keeps (m : List ℕ) (w : Model) : Type 0 where

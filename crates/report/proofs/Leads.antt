@@ -1,6 +1,5 @@
--- The findings after a place, one after another. Assumes nothing.
+-- The findings after a place, one after another.
 use mathlib.Core.Path.{_≡_, refl, sym, ap, _∙_}
-use mathlib.Core.Bool.{Bool, true, false, false≢true, _&&_}
 use mathlib.Core.List.{List, [], _∷_}
 use mathlib.Core.Option.{Option, none, some}
 use Prim.Native.Nat.{ℕ, zero, suc, _≤_, _<_}
@@ -12,8 +11,8 @@ use Rattle.model.specs.Model.{Model, computedBits}
 use Rattle.model.proofs.Next.{is-shown, walk-meets-all}
 use Rattle.formed.specs.Registry.{modelIn, bitsIn}
 use Rattle.findings.specs.Steps.{Place}
-use Rattle.findings.proofs.Walk.{Sized, rankOf, lt-after}
-use Rattle.findings.proofs.Walked.{nextIn, next-sized}
+use Rattle.findings.proofs.Walk.{SmallPlace, rankOf, lt-after}
+use Rattle.findings.proofs.NextFinding.{nextIn, next-sized}
 use Rattle.text.proofs.LineLaws.{Small}
 
 -- from a place, each step gives the next of the list, and then none
@@ -21,13 +20,13 @@ abbrev pub Leads : (Place → Option Finding) → Place → List Finding → Typ
 Leads next c [] = next c ≡ none
 Leads next c (x ∷ l) = (next c ≡ some x) × Leads next (placeOf x) l
 
-walk-leads : (next : Place → Option Finding) (l : List Finding) (c : Place) → walk next (suc (length l)) c ≡ l → Leads next c l
-walk-leads next [] c e = pick (next c) refl e
+leads-by-walk : (next : Place → Option Finding) (l : List Finding) (c : Place) → walk next (suc (length l)) c ≡ l → Leads next c l
+leads-by-walk next [] c e = pick (next c) refl e
   where
     pick : (o : Option Finding) → next c ≡ o → _≡_ {A = List Finding} (elim o [ none ↦ [] | some g ↦ g ∷ [] ]) [] → next c ≡ none
     pick none h e = h
     pick (some g) h e = let z : _≡_ {A = ℕ} 0 1 = cc in absurd (omega arith)
-walk-leads next (x ∷ l) c e = pick (next c) refl e (walk-leads next l)
+leads-by-walk next (x ∷ l) c e = pick (next c) refl e (leads-by-walk next l)
   where
     pick : (o : Option Finding) → next c ≡ o → _≡_ {A = List Finding} (elim o [ none ↦ [] | some g ↦ g ∷ walk next (suc (length l)) (placeOf g) ]) (x ∷ l)
         → ((d : Place) → walk next (suc (length l)) d ≡ l → Leads next d l) → (next c ≡ some x) × Leads next (placeOf x) l
@@ -40,7 +39,7 @@ walk-leads next (x ∷ l) c e = pick (next c) refl e (walk-leads next l)
 pub findings-lead : (w : Model) → Leads (nextAfter w (computedBits w)) start (findings w (computedBits w))
 findings-lead w =
     let l = findings w (computedBits w) in
-    walk-leads (nextAfter w (computedBits w)) l start (walk-meets-all w (computedBits w) (suc (length l)) (omega arith))
+    leads-by-walk (nextAfter w (computedBits w)) l start (walk-meets-all w (computedBits w) (suc (length l)) (omega arith))
 
 -- a walk goes along the list, and what is left of it leads on
 pub leads-walk : (next : Place → Option Finding) (n : ℕ) (p : Place) (l : List Finding) → Leads next p l → walk next n p ≡ take n l
@@ -54,11 +53,6 @@ leads-on next zero p l h = h
 leads-on next (suc n) p [] h = h
 leads-on next (suc n) p (x ∷ l) h = leads-on next n (placeOf x) l (h .1)
 
--- what holds where both are true
-pub both : {P : Type 0} (a b : Bool) → (a ≡ true → b ≡ true → P) → (a && b) ≡ true → P
-both true b f h = f refl h
-both false b f h = absurd (false≢true h)
-
 module _ (m : List ℕ) where
   pub leads-small : (p : Place) (l : List Finding) → Leads (nextIn m) p l → Small l
   leads-small p [] h = tt
@@ -68,11 +62,11 @@ module _ (m : List ℕ) where
   abbrev Rises : Place → List Finding → Type 0
   Rises p l = (rankOf p ≤ rankOf (moved p l)) × (0 < length l → rankOf p < rankOf (moved p l))
 
-  pub walk-rises : (n : ℕ) (p : Place) → Sized p → Rises p (walk (nextIn m) n p)
+  pub walk-rises : (n : ℕ) (p : Place) → SmallPlace p → Rises p (walk (nextIn m) n p)
   walk-rises zero p s = (omega arith, λ z. absurd (omega arith))
   walk-rises (suc n) p s = pick (nextIn m p) refl (walk-rises n)
     where
-      pick : (o : Option Finding) → nextIn m p ≡ o → ((q : Place) → Sized q → Rises q (walk (nextIn m) n q))
+      pick : (o : Option Finding) → nextIn m p ≡ o → ((q : Place) → SmallPlace q → Rises q (walk (nextIn m) n q))
           → Rises p (elim o [ none ↦ [] | some g ↦ g ∷ walk (nextIn m) n (placeOf g) ])
       pick none e ih = (omega arith, λ z. absurd (omega arith))
       pick (some g) e ih =

@@ -1,7 +1,6 @@
 -- The whole sheet, from the bytes of the input to the lines, straight from document 01, "The program and one printed sheet". It
--- speaks of the plain book alone: no memory, no stored bit, no piece of input and no buffer. Assumes nothing.
+-- speaks of the plain book alone: no memory, no stored bit, no piece of input and no buffer.
 use mathlib.Core.List.{List, [], _∷_, _++_}
-use mathlib.Core.Option.{Option, none, some}
 use Prim.Native.Nat.{ℕ, zero, suc, _+_}
 use lib.ListN.{length, take, drop}
 use Rattle.block.specs.Entry.{Settings}
@@ -9,9 +8,9 @@ use Rattle.block.specs.Refusal.{Read, refused, accepted}
 use Rattle.block.specs.Reader.{readSettings}
 use Rattle.model.specs.Model.{Model, empty, computedBits}
 use Rattle.model.specs.Findings.{containersOf, policiesOf, findings, pairs}
-use Rattle.model.specs.Calls.{Answer, refusal, done, containerAt, policyAt, says, found, noFinding, findingsPut, counted, admit}
+use Rattle.model.specs.Calls.{change, admit}
 use Rattle.model.specs.ModelStep.{modelStep}
-use Rattle.text.specs.Lines.{refusedLine, countsLine, findingLines}
+use Rattle.text.specs.Lines.{refusedLine, refusedBy, countsLine, findingLines}
 
 -- "reads blocks": bytes as blocks of 512, "a short last block" among them. At most f of them.
 unfoldable pub blocksBy : ℕ → List ℕ → List (List ℕ)
@@ -22,41 +21,25 @@ blocksBy (suc f) (x ∷ l) = take 512 (x ∷ l) ∷ blocksBy f (drop 512 (x ∷ 
 unfoldable pub blocksOf : List ℕ → List (List ℕ)
 blocksOf l = blocksBy (length l) l
 
--- the number that an answer refuses with
-abbrev pub refusedWith : Answer → Option ℕ
-refusedWith (refusal r) = some r
-refusedWith done = none
-refusedWith (containerAt c) = none
-refusedWith (policyAt q) = none
-refusedWith (says t) = none
-refusedWith (found g c) = none
-refusedWith noFinding = none
-refusedWith (findingsPut l c) = none
-refusedWith (counted c q k) = none
-
--- "A refused block n (from 1) gives `REFUSED n r`": what the answer to block n gives
-abbrev pub refusedBy : ℕ → Answer → List ℕ
-refusedBy n a = elim (refusedWith a) [ none ↦ [] | some r ↦ refusedLine n r ]
-
 -- "Then one line with the standing counts and PAIRS, then the findings."
 unfoldable pub closing : Model → List ℕ
 closing m =
     countsLine (length (containersOf m)) (length (policiesOf m)) (pairs (computedBits m)) ++ findingLines (findings m (computedBits m))
 
 -- "the others are admitted": the first of these is block n
-unfoldable pub admitting : ℕ → Model → List (List ℕ) → List ℕ
-admitting n m [] = closing m
-admitting n m (b ∷ l) = let r = modelStep m (admit b) in refusedBy n (r .1) ++ admitting (n + 1) (r .0) l
+unfoldable pub linesFrom : ℕ → Model → List (List ℕ) → List ℕ
+linesFrom n m [] = closing m
+linesFrom n m (b ∷ l) = let r = modelStep m (change (admit b)) in refusedBy n (r .1) ++ linesFrom (n + 1) (r .0) l
 
 -- "The first opens": "If open is refused .. that line is all."
-unfoldable pub opening : Read Settings → List (List ℕ) → List ℕ
-opening (refused f) l = refusedLine 1 (f .number)
-opening (accepted s) l = admitting 2 (empty s) l
+unfoldable pub sheetFrom : Read Settings → List (List ℕ) → List ℕ
+sheetFrom (refused f) l = refusedLine 1 (f .number)
+sheetFrom (accepted s) l = linesFrom 2 (empty s) l
 
 -- "or the input is empty (`REFUSED 1 3`)"
 unfoldable pub sheetOf : List (List ℕ) → List ℕ
 sheetOf [] = refusedLine 1 3
-sheetOf (b ∷ l) = opening (readSettings b) l
+sheetOf (b ∷ l) = sheetFrom (readSettings b) l
 
 unfoldable pub sheet : List ℕ → List ℕ
 sheet input = sheetOf (blocksOf input)

@@ -1,4 +1,4 @@
--- Candidate sets read from a memory: what their loops gather, and that they are the model's. Assumes nothing.
+-- Candidate sets read from a memory: what their loops gather, and that they are the model's.
 use mathlib.Core.Path.{_≡_, refl, sym, ap, ap₂, _∙_, fun-ext}
 use mathlib.Core.Bool.{Bool, true, false, not, _&&_, true≢false}
 use mathlib.Core.List.{List, []}
@@ -16,7 +16,7 @@ use Rattle.bitrow.proofs.Rows.{zeros-row}
 use Rattle.bitrow.proofs.Tests.{hasSome-absent}
 use Rattle.model.specs.Table.{on, at, stands}
 use Rattle.model.specs.Model.{policySlots, Model, selectedBit, allowedBit}
-use Rattle.store.specs.Layout.{wordAt, policyStart}
+use Rattle.store.specs.Layout.{selectOffset, allowOffset, policyStart, wordAt}
 use Rattle.formed.specs.Registry.{modelIn, wellFormed}
 use Rattle.formed.proofs.Reading.{policy-slot, policy-stands, policy-free}
 use Rattle.entries.specs.Entries.{trialSet}
@@ -108,10 +108,10 @@ module _ (m : List ℕ) (s : ℕ → Bool) (offset q : ℕ) where
   part-taken n = fun-ext (λ c. rw (ne-eqb (wordAt m (policyStart q)) 0 n))
 
 module _ (m : List ℕ) (ok : wellFormed m ≡ true) where
-  pub selects-within : PartsWithin m 1
+  pub selects-within : PartsWithin m selectOffset
   selects-within = record { part = formed-select m ok }
 
-  pub allows-within : PartsWithin m 6
+  pub allows-within : PartsWithin m allowOffset
   allows-within = record { part = formed-allow m ok }
 
 module _ (m : List ℕ) (q : ℕ) (h : q < policySlots) where
@@ -135,27 +135,27 @@ module _ (m : List ℕ) (q : ℕ) (h : q < policySlots) where
       go (yes e) = sym (part-free m standing offset q e) ∙ sym (a (none-free e))
       go (no n) = sym (part-taken m standing offset q n) ∙ b (stands-taken n)
 
-  pub selected-set : partSet m standing 1 q ≡ selectedBit (modelIn m) q
+  pub selected-set : partSet m standing selectOffset q ≡ selectedBit (modelIn m) q
   unfolding nothing selectedBit
-  selected-set = part-is 1 (λ e. fun-ext (λ c. rw e)) (select-row m q)
+  selected-set = part-is selectOffset (λ e. fun-ext (λ c. rw e)) (select-row m q)
 
-  pub allowed-set : partSet m standing 6 q ≡ allowedBit (modelIn m) q
+  pub allowed-set : partSet m standing allowOffset q ≡ allowedBit (modelIn m) q
   unfolding nothing allowedBit
-  allowed-set = part-is 6 (λ e. fun-ext (λ c. rw e)) (allow-row m q)
+  allowed-set = part-is allowOffset (λ e. fun-ext (λ c. rw e)) (allow-row m q)
 
 -- what `fill` finds and leaves, over the standing containers
 module _ (m : List ℕ) {s : ℕ → Bool} (e : s ≡ stands (modelIn m .containers)) {rows : List (List ℕ)} where
-  pub selected-known : {k : ℕ} → EmptyBut policySlots k (selectedBit (modelIn m)) rows → EmptyBut policySlots k (partSet m s 1) rows
-  selected-known {k} r = record { size = r .size; row = λ h. r .row h ∙ sym (ap (λ t. partSet m t 1 k) e ∙ selected-set m k h); others = r .others }
+  pub selected-known : {k : ℕ} → EmptyBut policySlots k (selectedBit (modelIn m)) rows → EmptyBut policySlots k (partSet m s selectOffset) rows
+  selected-known {k} r = record { size = r .size; row = λ h. r .row h ∙ sym (ap (λ t. partSet m t selectOffset k) e ∙ selected-set m k h); others = r .others }
 
-  pub allowed-known : {k : ℕ} → EmptyBut policySlots k (allowedBit (modelIn m)) rows → EmptyBut policySlots k (partSet m s 6) rows
-  allowed-known {k} r = record { size = r .size; row = λ h. r .row h ∙ sym (ap (λ t. partSet m t 6 k) e ∙ allowed-set m k h); others = r .others }
+  pub allowed-known : {k : ℕ} → EmptyBut policySlots k (allowedBit (modelIn m)) rows → EmptyBut policySlots k (partSet m s allowOffset) rows
+  allowed-known {k} r = record { size = r .size; row = λ h. r .row h ∙ sym (ap (λ t. partSet m t allowOffset k) e ∙ allowed-set m k h); others = r .others }
 
-  pub selected-rows : RowsAre policySlots (partSet m s 1) rows → RowsAre policySlots (selectedBit (modelIn m)) rows
-  selected-rows r = record { row = λ q h. r .row q h ∙ ap (λ t. partSet m t 1 q) e ∙ selected-set m q h }
+  pub selected-rows : RowsAre policySlots (partSet m s selectOffset) rows → RowsAre policySlots (selectedBit (modelIn m)) rows
+  selected-rows r = record { row = λ q h. r .row q h ∙ ap (λ t. partSet m t selectOffset q) e ∙ selected-set m q h }
 
-  pub allowed-rows : RowsAre policySlots (partSet m s 6) rows → RowsAre policySlots (allowedBit (modelIn m)) rows
-  allowed-rows r = record { row = λ q h. r .row q h ∙ ap (λ t. partSet m t 6 q) e ∙ allowed-set m q h }
+  pub allowed-rows : RowsAre policySlots (partSet m s allowOffset) rows → RowsAre policySlots (allowedBit (modelIn m)) rows
+  allowed-rows r = record { row = λ q h. r .row q h ∙ ap (λ t. partSet m t allowOffset q) e ∙ allowed-set m q h }
 
 -- ---- no policy stands
 

@@ -1,3 +1,2 @@
 -- The laws of candidate sets and of label rows.
 pub mod Candidates
-pub mod LabelLaws

@@ -1,3 +1,2 @@
 -- What the contracts of `sets` cite.
 pub mod Sets
-pub mod Labels

@@ -1,33 +1,19 @@
--- What candidate sets are to hold of a model. Assumes nothing.
+-- What candidate sets are to hold of a model.
 use mathlib.Core.Path.{_≡_}
 use mathlib.Core.Bool.{Bool, not, _&&_}
-use mathlib.Core.List.{List, []}
+use mathlib.Core.List.{List}
 use Prim.Native.Nat.{ℕ, _+_, _<_}
 use lib.Dec.{eqb}
-use lib.ListN.{length, getD}
-use Rattle.bitrow.specs.Bit.{bitAt}
+use lib.ListN.{length}
 use Rattle.bitrow.specs.Set.{nothing}
 use Rattle.model.specs.Model.{policySlots, Model, selectedBit, allowedBit}
 use Rattle.store.specs.Layout.{wordAt, policyStart}
 use Rattle.entries.specs.Entries.{PartOfLabels, trialSet}
-
--- rows as sets
-abbrev pub bits : List (List ℕ) → ℕ → ℕ → Bool
-bits rows q = bitAt (getD rows q [])
+pub use Rattle.label_rows.specs.Rows.{bits, Shaped, Empty}
 
 -- row q is the set f q, for each q below n
 pub record RowsAre (n : ℕ) (f : ℕ → ℕ → Bool) (rows : List (List ℕ)) : Type 0 where
   pub row : (q : ℕ) → q < n → bits rows q ≡ f q
-
--- n rows of four words
-pub record Shaped (n : ℕ) (rows : List (List ℕ)) : Type 0 where
-  pub size : length rows ≡ n
-  pub width : (q : ℕ) → q < n → length (getD rows q []) ≡ 4
-
--- n rows that have nothing
-pub record Empty (n : ℕ) (rows : List (List ℕ)) : Type 0 where
-  pub shape : Shaped n rows
-  pub row : (q : ℕ) → bits rows q ≡ nothing
 
 -- "two sets for each policy: the containers it selects and those it allows", by the entries
 pub record SetsOf (m : Model) (sel alw : List (List ℕ)) : Type 0 where

@@ -1,6 +1,4 @@
 // Candidate sets by the entries: what each policy selects and allows.
-mod labels;
-
 ghost use mathlib.Core.Path.{_≡_};
 ghost use mathlib.Core.Bool.{true};
 ghost use Prim.Native.Nat.{_<_};
@@ -8,19 +6,19 @@ ghost use Rattle.bitrow.specs.Bit.{bitAt};
 ghost use Rattle.model.specs.Table.{stands};
 ghost use Rattle.model.specs.Model.{policySlots};
 ghost use Rattle.formed.specs.Registry.{modelIn, wellFormed};
+ghost use Rattle.label_rows.specs.LabelRows.{LabelRows};
 ghost use Rattle.sets.specs.Sets.{RowsAre, EmptyBut, KnownSets, SetsOf, partSet, PartsWithin};
-ghost use Rattle.sets.specs.Labels.{LabelRows};
 
 // Of the candidates, those that the part at an offset of policy q's slot matches; none where the slot is free.
 pub fn part_row(memory: &[u64], q: usize, offset: usize, candidates: [u64; 4]) -> [u64; 4]
     requires { ⌜ (wellFormed (now memory) ≡ true) × (q < 128) × PartsWithin (now memory) offset ⌝ }
     ensures { λ r. ⌜ bitAt r ≡ partSet (now (memory .entry)) (bitAt candidates) offset q ⌝ }
 {
-    let at = store::POLICIES + 11 * q;
+    let at = store::POLICIES + store::POLICY_WORDS * q;
     if memory[at] == 0 {
         return bitrow::none();
     }
-    entries::trial(memory, at + offset, candidates)
+    trials::trial(memory, at + offset, candidates)
 }
 
 // The same by the label rows.
@@ -35,11 +33,11 @@ fn part_by_labels(
     requires { ⌜ (wellFormed (now memory) ≡ true) × (q < 128) × PartsWithin (now memory) offset × LabelRows (now memory) (now table) 256 (now rows) ⌝ }
     ensures { λ r. ⌜ bitAt r ≡ partSet (now (memory .entry)) (bitAt candidates) offset q ⌝ }
 {
-    let at = store::POLICIES + 11 * q;
+    let at = store::POLICIES + store::POLICY_WORDS * q;
     if memory[at] == 0 {
         return bitrow::none();
     }
-    labels::matching(memory, table, rows, at + offset, candidates)
+    label_rows::matching(memory, table, rows, at + offset, candidates)
 }
 
 // Such a row for each policy but `known`, whose row is there already.
@@ -57,7 +55,7 @@ fn fill(
     ensures { λ u. ⌜ RowsAre 128 (partSet (now (memory .entry)) (bitAt candidates) offset) (now (sets .exit)) ⌝ }
 {
     let mut next = 0;
-    while next < 128 {
+    while next < store::POLICY_SLOTS {
         let q = next;
         next += 1;
         if q != known {
@@ -81,10 +79,26 @@ fn fill_by_labels(
 {
     let mut table = [0u64; 1024];
     let mut rows = [[0u64; 4]; 1024];
-    labels::enter_all(&mut table, memory);
-    labels::mark_all(&mut rows, &table, memory);
-    fill(selected, known, memory, &table, &rows, 1, standing);
-    fill(allowed, known, memory, &table, &rows, 6, standing);
+    label_table::enter_all(&mut table, memory);
+    label_rows::mark_all(&mut rows, &table, memory);
+    fill(
+        selected,
+        known,
+        memory,
+        &table,
+        &rows,
+        store::SELECT,
+        standing,
+    );
+    fill(
+        allowed,
+        known,
+        memory,
+        &table,
+        &rows,
+        store::ALLOW,
+        standing,
+    );
 }
 
 // What each policy selects and what it allows, into rows that are empty but for those of the policy `known` (128 where there is

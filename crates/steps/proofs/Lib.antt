@@ -1,8 +1,8 @@
 -- The laws of each outcome, and demand 3.
+pub mod NumbersMet
 pub mod Outcomes
 pub mod Refused
 pub mod Valid
 pub mod Refinement
 pub mod Walk
-pub mod Listed
 pub mod Parts

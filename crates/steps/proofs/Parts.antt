@@ -1,4 +1,4 @@
--- The findings, part by part: as many as a list has room for, then on from the place handed back. Assumes nothing.
+-- A walk of k + n findings is one of n, then one of k from the place handed back: so the parts, joined, are the findings.
 use mathlib.Core.Path.{_≡_, refl, sym, ap, ap₂, subst, _∙_}
 use mathlib.Core.Bool.{true}
 use mathlib.Core.List.{List, [], _∷_, _++_, map, map-append, append-cancel-left}
@@ -12,7 +12,7 @@ use Rattle.block.specs.Entry.{Settings}
 use Rattle.model.specs.declared.Finding.{Finding}
 use Rattle.model.specs.Findings.{Cursor, findings, placeOf, nextAfter, start, walk, moved, findingCode}
 use Rattle.model.specs.Model.{empty}
-use Rattle.model.specs.Calls.{listFindings, findingsPut}
+use Rattle.model.specs.Calls.{ask, listFindings, findingsPut}
 use Rattle.model.proofs.Next.{walk-meets-all}
 use Rattle.formed.specs.Registry.{modelIn, bitsIn, wellFormed}
 use Rattle.steps.specs.MemoryStep.{memoryStep}
@@ -22,8 +22,8 @@ use Rattle.steps.proofs.Outcomes.{findings-answers}
 -- All that the call findings puts from a cursor, with room for n numbers, and again from the place that it hands back, until it puts
 -- fewer than n.
 pub data Parts (m : List ℕ) (n : ℕ) : Cursor → List ℕ → Type 0 where
-  last : (c d : Cursor) (l : List ℕ) → memoryStep m (listFindings c n) .1 ≡ findingsPut l d → length l < n → Parts m n c l
-  full : (c d : Cursor) (l r : List ℕ) → memoryStep m (listFindings c n) .1 ≡ findingsPut l d → length l ≡ n → Parts m n d r → Parts m n c (l ++ r)
+  last : (c d : Cursor) (l : List ℕ) → memoryStep m (ask (listFindings c n)) .1 ≡ findingsPut l d → length l < n → Parts m n c l
+  full : (c d : Cursor) (l r : List ℕ) → memoryStep m (ask (listFindings c n)) .1 ≡ findingsPut l d → length l ≡ n → Parts m n d r → Parts m n c (l ++ r)
 
 -- the calls leave no choice of what is put
 parts-alike : {m : List ℕ} {n : ℕ} {c : Cursor} {l k : List ℕ} → Parts m n c l → Parts m n c k → l ≡ k
@@ -105,7 +105,7 @@ module _ (m : List ℕ) (formed : wellFormed m ≡ true) (n : ℕ) (some-room : 
   abbrev after : Cursor → Option Finding
   after = nextAfter (modelIn m) (bitsIn m)
 
-  answer : (c : Cursor) → memoryStep m (listFindings c n) .1 ≡ findingsPut (map findingCode (walk after n c)) (moved c (walk after n c))
+  answer : (c : Cursor) → memoryStep m (ask (listFindings c n)) .1 ≡ findingsPut (map findingCode (walk after n c)) (moved c (walk after n c))
   answer c = ap (λ r. r .1) (findings-answers m formed c n)
 
   part-last : (c : Cursor) (l : List Finding) → Ends after c l → length l < n → Parts m n c (map findingCode l)

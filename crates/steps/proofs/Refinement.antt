@@ -1,4 +1,4 @@
--- Demand 3: over every list of calls the memory's steps answer as the model's, and leave the image of the model left. Assumes nothing.
+-- The step on an acceptable registry's image is the registry's step, on computed bits the model's; over a list of calls by induction.
 use mathlib.Core.Path.{_≡_, refl, sym, ap, subst, _∙_}
 use mathlib.Core.Bool.{cond}
 use mathlib.Core.List.{List, [], _∷_}
@@ -6,17 +6,19 @@ use mathlib.Core.Option.{Option, none, some}
 use Prim.Native.Nat.{ℕ, zero, suc}
 use lib.ListN.{length}
 use Rattle.block.specs.Entry.{Settings}
-use Rattle.block.specs.Refusal.{Refusal, firstRefusal, accepted}
-use Rattle.block.specs.Refusal.{unlessRefused as readUnless}
-use Rattle.block.specs.Reader.{settingsChecks, settingsIn, readSettings}
+use Rattle.block.specs.declared.Tested.{Tested}
+use Rattle.block.specs.declared.Tested.the-variants.{Passed, Refused}
+use Rattle.block.specs.Refusal.{firstRefusal, accepted}
+use Rattle.block.specs.Refusal.{readUnless}
+use Rattle.block.specs.Reader.{settingsChecks, settingsSaid, readSettings}
 use Rattle.block.proofs.Accepted.{settings-valid}
 use Rattle.model.specs.declared.Finding.{Finding}
 use Rattle.model.specs.Findings.{Cursor}
 use Rattle.model.specs.Findings.{placeOf, nextAfter, start, walk}
 use Rattle.model.specs.Model.{Model, empty, computedBits}
-use Rattle.model.specs.Calls.{Call, openWith, admit, removeContainer, removePolicy, askReaches, askUser, nextFinding, listFindings, counts, rebuild, audit}
+use Rattle.model.specs.Calls.{Call, openWith, change, ask, nextFinding}
 use Rattle.model.specs.Calls.{Answer, done, foundAnswer}
-use Rattle.model.specs.ModelStep.{modelStep}
+use Rattle.model.specs.ModelStep.{modelAnswer, modelStep}
 use Rattle.model.specs.Registry.{Registry, computed}
 use Rattle.model.specs.Refusals.{refusals}
 use Rattle.model.specs.RegistryStep.{acceptedStep, unlessRefused, registryStep}
@@ -41,23 +43,15 @@ imaged r = (image (r .0), r .1)
 changed : (r : Registry) (call : Call) → (cond (changes call) (image (acceptedStep r call .0)) (image r), acceptedStep r call .1) ≡ imaged (acceptedStep r call)
 unfolding acceptedStep
 changed r (openWith b) = refl
-changed r (admit b) = refl
-changed r (removeContainer c) = refl
-changed r (removePolicy q) = refl
-changed r (askReaches a b) = refl
-changed r (askUser c v) = refl
-changed r (nextFinding c) = refl
-changed r (listFindings c n) = refl
-changed r counts = refl
-changed r rebuild = refl
-changed r audit = refl
+changed r (change c) = refl
+changed r (ask q) = refl
 
-outcome-image : (r : Registry) (call : Call) (o : Option Refusal) → registryIn (image r) ≡ r
+outcome-image : (r : Registry) (call : Call) (o : Tested) → registryIn (image r) ≡ r
     → memoryOutcome (image r) call o ≡ imaged (unlessRefused r call o)
 unfolding unlessRefused
-outcome-image r call none e =
+outcome-image r call Passed e =
     ap (λ (v : Registry). (cond (changes call) (image (acceptedStep v call .0)) (image r), acceptedStep v call .1)) e ∙ changed r call
-outcome-image r call (some f) e = refl
+outcome-image r call (Refused f) e = refl
 
 -- The step on the memory of an acceptable registry is the registry's step.
 pub step-image : (r : Registry) → Acceptable r → (call : Call) → memoryStep (image r) call ≡ imaged (registryStep r call)
@@ -109,10 +103,10 @@ followed-is none f g h = refl
 followed-is (some x) f g h = ap (λ l. x ∷ l) (h (placeOf x))
 
 walk-refines : (m : Model) → Good m → (n : ℕ) (c : Cursor) → walkOn (image (computed m)) n c ≡ walk (nextAfter m (computedBits m)) n c
-unfolding walkOn modelStep
+unfolding walkOn modelStep modelAnswer
 walk-refines m g zero c = refl
 walk-refines m g (suc n) c =
-    ap (λ (r : List ℕ × Answer). followed (r .1) (walkOn (image (computed m)) n)) (step-refines m g (nextFinding c))
+    ap (λ (r : List ℕ × Answer). followed (r .1) (walkOn (image (computed m)) n)) (step-refines m g (ask (nextFinding c)))
     ∙ followed-is (nextAfter m (computedBits m) c) (walkOn (image (computed m)) n) (walk (nextAfter m (computedBits m)) n) (walk-refines m g n)
 
 -- ---- the theorem
@@ -134,19 +128,19 @@ refined s g calls =
     }
 
 -- an open that answers done has read its block
-open-read : (m b : List ℕ) → length m ≡ memoryWords → memoryStep m (openWith b) .1 ≡ done → readSettings b ≡ accepted (settingsIn b)
+open-read : (m b : List ℕ) → length m ≡ memoryWords → memoryStep m (openWith b) .1 ≡ done → readSettings b ≡ accepted (settingsSaid b)
 unfolding readSettings
 open-read m b whole e = pick (firstRefusal (settingsChecks b)) (sym (ap (λ r. r .1) (open-past m b whole)) ∙ e)
   where
-    pick : (o : Option Refusal) → memoryOutcome m (openWith b) o .1 ≡ done → readUnless o (settingsIn b) ≡ accepted (settingsIn b)
-    pick none h = refl
-    pick (some f) h = cc
+    pick : (o : Tested) → memoryOutcome m (openWith b) o .1 ≡ done → readUnless o (settingsSaid b) ≡ accepted (settingsSaid b)
+    pick Passed h = refl
+    pick (Refused f) h = cc
 
 -- Demand 3, whole.
 pub refinement : Refinement
 unfolding Refinement
 refinement m b whole e calls =
-    let s = settingsIn b in
+    let s = settingsSaid b in
     let h = open-read m b whole e in
     let o : image (computed (empty s)) ≡ memoryStep m (openWith b) .0 = sym (ap (λ r. r .0) (open-done m b whole s h) ∙ ap image (opened-computed s)) in
     subst (λ x. Refined s x calls) o (refined s (record { sized = sized-empty s; valid = valid-empty s (settings-valid b s h) }) calls)

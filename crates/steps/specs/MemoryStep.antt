@@ -1,12 +1,13 @@
--- What a call leaves of the memory that it was lent, and its answer. Assumes nothing.
+-- What a call leaves of the memory that it was lent, and its answer.
 use mathlib.Core.Bool.{Bool, true, false, not, cond}
 use mathlib.Core.List.{List, [], _∷_, _++_}
-use mathlib.Core.Option.{Option, none, some}
 use Prim.Native.Nat.{ℕ}
 use lib.Dec.{eqb}
 use lib.ListN.{length}
-use Rattle.block.specs.Refusal.{Refusal, Check, check, firstRefusal}
-use Rattle.model.specs.Calls.{Call, openWith, admit, removeContainer, removePolicy, askReaches, askUser, nextFinding, listFindings, counts, rebuild, audit}
+use Rattle.block.specs.declared.Tested.{Tested}
+use Rattle.block.specs.declared.Tested.the-variants.{Passed, Refused}
+use Rattle.block.specs.Refusal.{Check, check, firstRefusal}
+use Rattle.model.specs.Calls.{Call, openWith, change, ask}
 use Rattle.model.specs.Calls.{Answer, refusal}
 use Rattle.model.specs.Refusals.{where0, refusals}
 use Rattle.model.specs.RegistryStep.{acceptedStep}
@@ -23,16 +24,8 @@ formedCheck m = check 2 (where0 (not (wellFormed m))) ∷ []
 
 abbrev pub meetsFormed : List ℕ → Call → List Check
 meetsFormed m (openWith b) = []
-meetsFormed m (admit b) = formedCheck m
-meetsFormed m (removeContainer c) = formedCheck m
-meetsFormed m (removePolicy q) = formedCheck m
-meetsFormed m (askReaches a b) = formedCheck m
-meetsFormed m (askUser c v) = formedCheck m
-meetsFormed m (nextFinding c) = formedCheck m
-meetsFormed m (listFindings c n) = formedCheck m
-meetsFormed m counts = formedCheck m
-meetsFormed m rebuild = formedCheck m
-meetsFormed m audit = formedCheck m
+meetsFormed m (change c) = formedCheck m
+meetsFormed m (ask q) = formedCheck m
 
 -- all refusals that a call meets, in their order
 unfoldable pub memoryRefusals : List ℕ → Call → List Check
@@ -41,21 +34,13 @@ memoryRefusals m call = check 1 (where0 (otherSize m)) ∷ (meetsFormed m call +
 -- "The calls that ask change nothing."
 abbrev pub changes : Call → Bool
 changes (openWith b) = true
-changes (admit b) = true
-changes (removeContainer c) = true
-changes (removePolicy q) = true
-changes (askReaches a b) = false
-changes (askUser c v) = false
-changes (nextFinding c) = false
-changes (listFindings c n) = false
-changes counts = false
-changes rebuild = true
-changes audit = false
+changes (change c) = true
+changes (ask q) = false
 
 -- A refused call and a query leave the memory itself; an accepted change leaves the image of the changed registry.
-abbrev pub memoryOutcome : List ℕ → Call → Option Refusal → List ℕ × Answer
-memoryOutcome m call (some f) = (m, refusal (f .number))
-memoryOutcome m call none =
+abbrev pub memoryOutcome : List ℕ → Call → Tested → List ℕ × Answer
+memoryOutcome m call (Refused f) = (m, refusal (f .number))
+memoryOutcome m call Passed =
     let r = acceptedStep (registryIn m) call in
     (cond (changes call) (image (r .0)) m, r .1)
 

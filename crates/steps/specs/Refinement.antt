@@ -1,4 +1,4 @@
--- Demand 3: what the theorem speaks of. Assumes nothing.
+-- Demand 3: what the theorem speaks of.
 use mathlib.Core.Path.{_≡_}
 use mathlib.Core.Bool.{true}
 use mathlib.Core.List.{List, [], _∷_}
@@ -8,10 +8,10 @@ use lib.ListN.{length}
 use Rattle.block.specs.Entry.{Settings}
 use Rattle.model.specs.declared.Finding.{Finding}
 use Rattle.model.specs.Findings.{Cursor}
-use Rattle.block.specs.Reader.{settingsIn}
+use Rattle.block.specs.Reader.{settingsSaid}
 use Rattle.model.specs.Findings.{findings, start}
 use Rattle.formed.specs.Registry.{modelIn, bitsIn, wellFormed}
-use Rattle.model.specs.Calls.{Call, openWith, nextFinding, Answer, refusal, done, containerAt, policyAt, says, found, noFinding, findingsPut, counted}
+use Rattle.model.specs.Calls.{Call, openWith, ask, nextFinding, Answer, refusal, done, said}
 use Rattle.model.specs.Model.{Model, empty, computedBits}
 use Rattle.model.specs.ModelStep.{modelStep}
 use Rattle.store.specs.Layout.{memoryWords}
@@ -54,22 +54,14 @@ onModel m (other x e call ∷ l) =
 -- "A walk calls next finding from 0 0 0, then from each finding given, until there is none": the answers of the call itself, at
 -- most n of them; the cursor handed back is where the next call begins.
 abbrev pub followed : Answer → (Cursor → List Finding) → List Finding
-followed (found g c) rest = g ∷ rest c
-followed noFinding rest = []
-followed (findingsPut l c) rest = []
-followed (refusal k) rest = []
-followed done rest = []
-followed (containerAt i) rest = []
-followed (policyAt i) rest = []
-followed (says t) rest = []
-followed (counted a b n) rest = []
+followed a rest = elim (said a .finding) [ none ↦ [] | some p ↦ p .0 ∷ rest (p .1) ]
 
 abbrev pub modelFindings : Model → List Finding
 modelFindings m = findings m (computedBits m)
 
 unfoldable pub walkOn : List ℕ → ℕ → Cursor → List Finding
 walkOn m zero c = []
-walkOn m (suc n) c = followed (memoryStep m (nextFinding c) .1) (walkOn m n)
+walkOn m (suc n) c = followed (memoryStep m (ask (nextFinding c)) .1) (walkOn m n)
 
 -- What holds after a list of calls on a memory m that was opened with settings s.
 pub record Refined (s : Settings) (m : List ℕ) (calls : List Lending) : Type 0 where
@@ -89,4 +81,4 @@ pub record Refined (s : Settings) (m : List ℕ) (calls : List Lending) : Type 0
 unfoldable pub Refinement : Type 0
 Refinement =
     (m b : List ℕ) → length m ≡ memoryWords → memoryStep m (openWith b) .1 ≡ done
-    → (calls : List Lending) → Refined (settingsIn b) (memoryStep m (openWith b) .0) calls
+    → (calls : List Lending) → Refined (settingsSaid b) (memoryStep m (openWith b) .0) calls

@@ -1,4 +1,4 @@
--- One bit of a word, and one bit of a row, changed. Assumes nothing.
+-- One bit of a word, and one bit of a row, changed.
 use mathlib.Core.Path.{_≡_, refl, sym, ap, ap₂, _∙_}
 use mathlib.Core.Bool.{Bool, true, false, not, _&&_, _||_, cond}
 use mathlib.Core.List.{List}
@@ -11,7 +11,7 @@ use lib.Seq.{getD-set-same, getD-set-other}
 use borrow.Author.Tests.{eq-eqb, ne-eqb}
 use Rattle.bitrow.specs.Bit.{bit}
 use Rattle.bitrow.proofs.Words.{bit-and, bit-or, bit-not, bit-pow, one-shl}
-use Rattle.store.specs.Layout.{Whole, wordAt, rowBit}
+use Rattle.store.specs.Layout.{rowCount, Whole, wordAt, rowBit}
 use Rattle.store.specs.Memory.{withBit, bitWord, bitSet, changed}
 use Rattle.store.proofs.Cases.{by-eqb}
 
@@ -60,7 +60,7 @@ same-eqb : (a b c d : ℕ) → (a ≡ b → c ≡ d) → (c ≡ d → a ≡ b) �
 same-eqb a b c d f g = by-eqb (λ t. t ≡ eqb c d) a b (λ e. sym (eq-eqb c d (f e))) (λ n. sym (ne-eqb c d (λ q. n (g q))))
 
 -- a bit of the memory with bit b of row x changed
-pub row-bit-set : (m : List ℕ) (x b : ℕ) (v : Bool) (r y : ℕ) → Whole m → x < 512 → b < 256 → y < 256
+pub row-bit-set : (m : List ℕ) (x b : ℕ) (v : Bool) (r y : ℕ) → Whole m → x < rowCount → b < 256 → y < 256
     → rowBit (bitSet m x b v) r y ≡ cond (eqb r x) (changed b v (rowBit m x)) (rowBit m r) y
 unfolding rowBit bitSet changed
 row-bit-set m x b v r y whole hx hb hy =

@@ -1,5 +1,5 @@
--- What a memory holds, and what it holds after each write. Assumes nothing.
-use mathlib.Core.Path.{_≡_, refl, sym, ap, ap₂, _∙_, subst, fun-ext}
+-- What a memory holds, and what it holds after each write.
+use mathlib.Core.Path.{_≡_, refl, sym, ap, ap₂, _∙_, subst}
 use mathlib.Core.Bool.{Bool, true, false, _&&_, cond}
 use mathlib.Core.List.{List, [], _∷_}
 use Prim.Native.Nat.{ℕ, zero, suc, _+_, _*_, _-_, _/_, _%_, _<_, _≤_}
@@ -9,15 +9,15 @@ use lib.Arith.{digits-div, digits-mod}
 use lib.Dec.{eqb, leb, ltb}
 use lib.ListN.{length, getD, take, length-replicate, getD-replicate}
 use lib.Seq.{sets, length-sets, length-take-le, getD-take}
-use borrow.Author.Tests.{eq-eqb, ne-eqb, lt-ltb, le-ltb, le-leb, ltb-true, ltb-false, leb-true, leb-false}
+use borrow.Author.Tests.{ne-eqb, lt-ltb, le-ltb, le-leb, ltb-true, ltb-false, leb-true, leb-false}
 use Rattle.bitrow.specs.Bit.{bit, bitAt}
 use Rattle.bitrow.proofs.Rows.{words-are}
 use Rattle.bitrow.proofs.Sets.{at}
 use Rattle.bitrow.proofs.Words.{bit-zero}
-use Rattle.store.specs.Layout.{memoryWords, rowsStart, rowStart, Whole, wordAt, rowAt, rowBit}
+use Rattle.store.specs.Layout.{memoryWords, rowsStart, rowCount, rowStart, Whole, wordAt, rowAt, rowBit}
 use Rattle.store.specs.Contents.{Contents, Holds}
 use Rattle.store.specs.Memory.{bitWord, fourWords, slotSet, rowSet, bitSet, runs, cleared, withSlot, withRow, changed, blank}
-use Rattle.store.proofs.Cases.{by-eqb, by-ltb}
+use Rattle.store.proofs.Cases.{by-eqb}
 use Rattle.store.proofs.Stores.{sets-out, sets-in, length-bit, bit-out}
 use Rattle.store.proofs.Bits.{row-bit-set}
 
@@ -51,24 +51,15 @@ row-bit m r y h = at (row-bits m r) y ∙ sym (below-and y 256 (rowBit m r y) h)
 -- contents that agree before the rows and within them
 pub record SameContents (c d : Contents) : Type 0 where
   pub words : (k : ℕ) → k < rowsStart → c .words k ≡ d .words k
-  pub bits : (r y : ℕ) → r < 512 → y < 256 → c .bits r y ≡ d .bits r y
+  pub bits : (r y : ℕ) → r < rowCount → y < 256 → c .bits r y ≡ d .bits r y
 
 -- what a memory holds, said otherwise
 pub holds-as : {m : List ℕ} {c : Contents} → Holds m c → (d : Contents) → SameContents c d → Holds m d
 holds-as h d s = record { whole = h .whole; words = λ k l. h .words k l ∙ s .words k l; bits = λ r y a b. h .bits r y a b ∙ s .bits r y a b }
 
--- a whole memory holds its own words and bits
-pub holds-self : (m : List ℕ) → Whole m → Holds m (record { words = wordAt m; bits = rowBit m })
-holds-self m h = record { whole = h; words = λ k l. refl; bits = λ r y a b. refl }
-
 -- what a call left, by what it ensures
 pub holds-by : {m e : List ℕ} {c : Contents} → Holds m c → e ≡ m → Holds e c
 holds-by {m} {e} {c} h q = subst (λ (l : List ℕ). Holds l c) (sym q) h
-
--- row r read from a memory, by what it holds
-pub row-held : {m : List ℕ} {c : Contents} → Holds m c → (r : ℕ) → r < 512 → bitAt (rowAt m r) ≡ (λ y. ltb y 256 && c .bits r y)
-row-held {m} {c} h r hr =
-    row-bits m r ∙ fun-ext (λ y. by-ltb (λ t. (t && rowBit m r y) ≡ (t && c .bits r y)) y 256 (λ l. h .bits r y hr l) (λ l. refl))
 
 -- ---- a slot
 
@@ -114,11 +105,7 @@ holds-slot {m} {c} h start n ws fit long =
 -- ---- a row
 
 module _ (c : Contents) (r : ℕ) (set : ℕ → Bool) where
-  -- the row, and any other
-  pub row-in : (withRow c r set) .bits r ≡ set
-  unfolding withRow
-  row-in = ap (λ (t : Bool). cond t set (c .bits r)) (eq-eqb r r refl)
-
+  -- any other row
   pub row-out : (x : ℕ) → (x ≡ r → ⊥) → (withRow c r set) .bits x ≡ c .bits x
   unfolding withRow
   row-out x n = ap (λ (t : Bool). cond t set (c .bits x)) (ne-eqb x r n)
@@ -127,7 +114,7 @@ module _ (c : Contents) (r : ℕ) (set : ℕ → Bool) where
   unfolding withRow
   row-words = refl
 
-pub holds-row : {m : List ℕ} {c : Contents} → Holds m c → (r : ℕ) (row : List ℕ) → r < 512 → Holds (rowSet m r row) (withRow c r (bitAt row))
+pub holds-row : {m : List ℕ} {c : Contents} → Holds m c → (r : ℕ) (row : List ℕ) → r < rowCount → Holds (rowSet m r row) (withRow c r (bitAt row))
 unfolding rowSet withRow rowBit bitAt
 holds-row {m} {c} h r row hr =
     let whole = h .whole in
@@ -143,7 +130,7 @@ holds-row {m} {c} h r row hr =
 
 -- ---- one bit
 
-pub holds-bit : {m : List ℕ} {c : Contents} → Holds m c → (r b : ℕ) (v : Bool) → r < 512 → b < 256
+pub holds-bit : {m : List ℕ} {c : Contents} → Holds m c → (r b : ℕ) (v : Bool) → r < rowCount → b < 256
     → Holds (bitSet m r b v) (withRow c r (changed b v (c .bits r)))
 unfolding withRow changed
 holds-bit {m} {c} h r b v hr hb =

@@ -1,4 +1,4 @@
--- By cases on a test. Assumes nothing.
+-- By cases on a test.
 use mathlib.Core.Path.{_≡_, refl}
 use mathlib.Core.Bool.{Bool, true, false}
 use Prim.Native.Nat.{ℕ, _<_, _≤_}

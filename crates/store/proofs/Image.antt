@@ -1,7 +1,7 @@
--- Tables by what stands at each place, words by their bits, and the one memory that holds given contents. Assumes nothing.
+-- Tables by what stands at each place, words by their bits, and the one memory that holds given contents.
 use mathlib.Core.Path.{_≡_, refl, sym, ap, ap₂, _∙_}
 use mathlib.Core.Bool.{Bool, true, false, cond}
-use mathlib.Core.List.{List, _∷_}
+use mathlib.Core.List.{List}
 use Prim.Native.Nat.{ℕ, zero, suc, _+_, _*_, _-_, _/_, _%_, _^_, _<_, _≤_}
 use native.Mathlib.Nat.{two-pow-succ, div-one, not-suc-le-zero, le-of-suc-le-suc}
 use native.Mathlib.Omega.{arith}
@@ -11,9 +11,8 @@ use borrow.Author.Tests.{lt-ltb, le-ltb}
 use Rattle.bitrow.specs.Bit.{digit, bit}
 use Rattle.bitrow.specs.Set.{one}
 use Rattle.bitrow.proofs.Words.{bit-shr, word-ext}
-use Rattle.store.specs.Layout.{memoryWords, rowsStart, rowStart, wordAt, rowBit}
+use Rattle.store.specs.Layout.{memoryWords, rowsStart, rowCount, rowWords, rowStart, wordAt, rowBit}
 use Rattle.store.specs.Contents.{Contents, Holds, tab, ofBits, imageWord, imageOf}
-use Rattle.store.proofs.Carried.{SameContents}
 use Rattle.store.proofs.Cases.{by-ltb}
 
 -- ---- tables
@@ -38,12 +37,6 @@ module _ {A : Type 0} where
   pub is-tab : (n : ℕ) (f : ℕ → A) (l : List A) (d : A) → length l ≡ n → ((i : ℕ) → i < n → getD l i d ≡ f i) → l ≡ tab n f
   is-tab n f l d e h =
       ext-getD d l (tab n f) (e ∙ sym (length-tab n f)) (λ i b. let q : i < n = omega arith in h i q ∙ sym (getD-tab n f i d q))
-
-  pub tab-cong : (n : ℕ) (f g : ℕ → A) → ((i : ℕ) → i < n → f i ≡ g i) → tab n f ≡ tab n g
-  unfolding tab
-  tab-cong zero f g h = refl
-  tab-cong (suc n) f g h =
-      ap₂ (λ (x : A) (l : List A). x ∷ l) (h 0 (omega arith)) (tab-cong n (λ (i : ℕ). f (suc i)) (λ (i : ℕ). g (suc i)) (λ i b. h (suc i) (omega arith)))
 
 -- ---- words by their bits
 
@@ -81,21 +74,18 @@ bit-of (suc n) f (suc i) h =
 pub is-packed : (n w : ℕ) (f : ℕ → Bool) → w < 2 ^ n → ((i : ℕ) → i < n → bit w i ≡ f i) → w ≡ ofBits n f
 is-packed n w f h e = word-ext n w (ofBits n f) h (of-bits-lt n f) (λ i b. e i b ∙ sym (bit-of n f i b))
 
-pub packed-cong : (n : ℕ) (f g : ℕ → Bool) → ((i : ℕ) → i < n → f i ≡ g i) → ofBits n f ≡ ofBits n g
-packed-cong n f g h = is-packed n (ofBits n f) g (of-bits-lt n f) (λ i b. bit-of n f i b ∙ h i b)
-
 -- ---- the memory that holds given contents
 
 -- the bits of word k, from the first word of the rows on
 abbrev pub wordBits : Contents → ℕ → ℕ → Bool
-wordBits c k i = c .bits ((k - rowsStart) / 4) ((k - rowsStart) % 4 * 64 + i)
+wordBits c k i = c .bits ((k - rowsStart) / rowWords) ((k - rowsStart) % rowWords * 64 + i)
 
 -- the place of a word's bit: its row, its place there
-row-place : (m : List ℕ) (k i : ℕ) → rowsStart ≤ k → i < 64 → rowBit m ((k - rowsStart) / 4) ((k - rowsStart) % 4 * 64 + i) ≡ bit (wordAt m k) i
+row-place : (m : List ℕ) (k i : ℕ) → rowsStart ≤ k → i < 64 → rowBit m ((k - rowsStart) / rowWords) ((k - rowsStart) % rowWords * 64 + i) ≡ bit (wordAt m k) i
 unfolding rowBit
 row-place m k i h b =
-    let r = (k - rowsStart) / 4 in
-    let y = (k - rowsStart) % 4 * 64 + i in
+    let r = (k - rowsStart) / rowWords in
+    let y = (k - rowsStart) % rowWords * 64 + i in
     let u : rowStart r + y / 64 ≡ k = omega arith in
     let v : y % 64 ≡ i = omega arith in
     ap₂ (λ (x z : ℕ). bit (wordAt m x) z) u v
@@ -107,7 +97,7 @@ holds-image {m} {c} h fit =
     is-tab memoryWords (imageWord c) m 0 (h .whole) (λ k l.
     by-ltb (λ t. wordAt m k ≡ cond t (c .words k) (ofBits 64 (wordBits c k))) k rowsStart
     (λ g. h .words k g)
-    (λ g. is-packed 64 (wordAt m k) (wordBits c k) (fit k) (λ i b. sym (row-place m k i g b) ∙ h .bits ((k - rowsStart) / 4) ((k - rowsStart) % 4 * 64 + i) (omega arith) (omega arith))))
+    (λ g. is-packed 64 (wordAt m k) (wordBits c k) (fit k) (λ i b. sym (row-place m k i g b) ∙ h .bits ((k - rowsStart) / rowWords) ((k - rowsStart) % rowWords * 64 + i) (omega arith) (omega arith))))
 
 module _ (c : Contents) where
   pub image-length : length (imageOf c) ≡ memoryWords
@@ -126,12 +116,12 @@ module _ (c : Contents) where
   unfolding imageWord
   image-packed k g h = image-word k h ∙ (rw (le-ltb k rowsStart g))
 
-  pub image-bit : (r y : ℕ) → r < 512 → y < 256 → rowBit (imageOf c) r y ≡ c .bits r y
+  pub image-bit : (r y : ℕ) → r < rowCount → y < 256 → rowBit (imageOf c) r y ≡ c .bits r y
   unfolding rowBit
   image-bit r y hr hy =
       let k = rowStart r + y / 64 in
-      let a : (k - rowsStart) / 4 ≡ r = omega arith in
-      let b : (k - rowsStart) % 4 * 64 + y % 64 ≡ y = omega arith in
+      let a : (k - rowsStart) / rowWords ≡ r = omega arith in
+      let b : (k - rowsStart) % rowWords * 64 + y % 64 ≡ y = omega arith in
       ap (λ (w : ℕ). bit w (y % 64)) (image-packed k (omega arith) (omega arith)) ∙ bit-of 64 (wordBits c k) (y % 64) (omega arith) ∙ ap₂ (c .bits) a b
 
   -- the image holds them
@@ -150,12 +140,3 @@ module _ (c : Contents) where
   image-fits fit k =
       by-ltb (λ t. wordAt (imageOf c) k < 2 ^ 64) k rowsStart
       (λ h. omega (arith, image-entry k h, fit k h)) (λ h. image-rows-fit k h)
-
--- contents that agree before the rows and within them have one image
-pub image-same : (c d : Contents) → SameContents c d → imageOf c ≡ imageOf d
-unfolding imageOf imageWord
-image-same c d s =
-    tab-cong memoryWords (imageWord c) (imageWord d) (λ k l.
-    by-ltb (λ t. cond t (c .words k) (ofBits 64 (wordBits c k)) ≡ cond t (d .words k) (ofBits 64 (wordBits d k))) k rowsStart
-    (λ h. s .words k h)
-    (λ h. packed-cong 64 (wordBits c k) (wordBits d k) (λ i b. s .bits ((k - rowsStart) / 4) ((k - rowsStart) % 4 * 64 + i) (omega arith) (omega arith))))

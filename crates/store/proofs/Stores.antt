@@ -1,15 +1,16 @@
--- Laws of lists that were stored to: a run of stores, a part that was filled, the turns of a loop. Assumes nothing.
+-- Laws of lists that were stored to: a run of stores, a part that was filled, the rows of a band.
 use mathlib.Core.Path.{_≡_, refl, sym, ap, _∙_}
 use mathlib.Core.Bool.{Bool}
 use mathlib.Core.List.{List, [], _∷_, _++_}
-use Prim.Native.Nat.{ℕ, zero, suc, _+_, _-_, _*_, _<_, _≤_}
+use Prim.Native.Nat.{ℕ, zero, suc, _+_, _-_, _<_, _≤_}
 use native.Mathlib.Nat.{add-suc, add-zero, suc-add, zero-add, not-suc-le-zero, le-refl, mul-le-mul-left}
 use native.Mathlib.Numerals.{add-one}
 use native.Mathlib.Omega.{arith}
 use lib.ListN.{length, getD, set, take, replicate, length-set, replicate-append-replicate}
 use lib.Seq.{sets, getD-set-same, getD-set-other, set-append-left, length-take-le, take-suc, take-all, take-suc-set}
 use borrow.Rule.Slice.PartMut.{putMid, midOf, postOf, put-same, mid-len}
-use Rattle.store.specs.Layout.{wordAt}
+use Rattle.store.specs.Layout.{bandRow, wordAt}
+use Rattle.store.specs.declared.Band.{Band}
 use Rattle.store.specs.Memory.{bitWord, slotSet, bitSet, runs, columnSet}
 use Rattle.bitrow.specs.Bit.{bitAt}
 
@@ -83,20 +84,11 @@ filled-more {A} l i v h e =
 pub filled : {A : Type 0} (l : List A) (i n : ℕ) (v : A) → length l ≡ n → i ≡ n → take i l ≡ replicate i v → l ≡ replicate n v
 filled l i n v e q h = sym (take-all i l (omega arith)) ∙ h ∙ ap (λ (k : ℕ). replicate k v) q
 
--- ---- the turns of a loop
+-- ---- the rows of a band
 
--- a word that no turn changes
-pub runs-out : (turn : ℕ → List ℕ → List ℕ) (k n : ℕ) → ((i : ℕ) → i < n → (l : List ℕ) → wordAt (turn i l) k ≡ wordAt l k)
-    → (m : List ℕ) → wordAt (runs turn m n) k ≡ wordAt m k
-unfolding runs
-runs-out turn k zero each m = refl
-runs-out turn k (suc n) each m = each n (omega arith) (runs turn m n) ∙ runs-out turn k n (λ i h. each i (omega arith)) m
-
--- ---- a column
-
--- row first + step * i, where the last one is below n
-pub run-below : (first step count n i : ℕ) → first + step * (count - 1) < n → i < count → first + step * i < n
-run-below first step count n i h l = let p : i ≤ count - 1 = omega arith in omega (arith, mul-le-mul-left step p)
+-- a row of a band whose last one is below n
+pub row-below : (t : Band) (n i : ℕ) → bandRow t (t .count - 1) < n → i < t .count → bandRow t i < n
+row-below t n i h l = let p : i ≤ t .count - 1 = omega arith in omega (arith, mul-le-mul-left (t .step) p)
 
 pub length-bit : (m : List ℕ) (r b : ℕ) (v : Bool) → length (bitSet m r b v) ≡ length m
 unfolding bitSet
@@ -107,11 +99,15 @@ pub bit-out : (m : List ℕ) (r b : ℕ) (v : Bool) (k : ℕ) → (k ≡ bitWord
 unfolding bitSet
 bit-out m r b v k h = getD-set-other m (bitWord r b) k _ 0 h
 
-pub column-none : (m : List ℕ) (first step b : ℕ) (values : List ℕ) → m ≡ columnSet m first step 0 b values
-unfolding columnSet runs
-column-none m first step b values = refl
+-- the first n rows of a band
+abbrev pub firstRows : Band → ℕ → Band
+firstRows t n = record { first = t .first; step = t .step; count = n }
 
-pub column-more : (m : List ℕ) (first step i b : ℕ) (values : List ℕ)
-    → bitSet (columnSet m first step i b values) (first + step * i) b (bitAt values i) ≡ columnSet m first step (i + 1) b values
+pub column-none : (m : List ℕ) (t : Band) (b : ℕ) (values : List ℕ) → m ≡ columnSet m (firstRows t 0) b values
 unfolding columnSet runs
-column-more m first step i b values = rw add-one
+column-none m t b values = refl
+
+pub column-more : (m : List ℕ) (t : Band) (i b : ℕ) (values : List ℕ)
+    → bitSet (columnSet m (firstRows t i) b values) (bandRow t i) b (bitAt values i) ≡ columnSet m (firstRows t (i + 1)) b values
+unfolding columnSet runs
+column-more m t i b values = rw add-one

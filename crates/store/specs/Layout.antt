@@ -1,30 +1,47 @@
--- Where each part of the memory stands. Three words of settings; 256 container slots of nine words; 128 policy slots of eleven;
--- then 512 rows of four words: rows 0 to 255 are the matrix, row 256 + 2 q what policy q selects, row 257 + 2 q what it allows.
--- Assumes nothing.
+-- Where each part of the memory stands, in the names of `src/lib.rt`. Three words of settings; 256 container slots of nine words; 128
+-- policy slots of eleven; then 512 rows of four words: rows 0 to 255 are the matrix, then come what policy 0 selects, what it allows,
+-- what policy 1 selects, and so on.
 use mathlib.Core.Path.{_≡_}
 use mathlib.Core.Bool.{Bool}
 use mathlib.Core.List.{List, [], _∷_}
-use Prim.Native.Nat.{ℕ, _+_, _*_, _/_, _%_}
+use Prim.Native.Nat.{ℕ, _+_, _*_, _-_, _/_, _%_, _<_, _≤_}
 use lib.ListN.{length, getD}
 use Rattle.bitrow.specs.Bit.{bit}
+use Rattle.store.specs.declared.Band.{Band}
 
-abbrev pub memoryWords : ℕ
-memoryWords = 5763
+abbrev pub settingsSize : ℕ
+settingsSize = 3
 
 abbrev pub containersStart : ℕ
-containersStart = 3
+containersStart = settingsSize
 
 abbrev pub containerWords : ℕ
 containerWords = 9
 
 abbrev pub policiesStart : ℕ
-policiesStart = 2307
+policiesStart = containersStart + 256 * containerWords
 
 abbrev pub policyWords : ℕ
 policyWords = 11
 
+-- where each part of a policy begins in its slot
+abbrev pub selectOffset : ℕ
+selectOffset = 1
+
+abbrev pub allowOffset : ℕ
+allowOffset = 6
+
 abbrev pub rowsStart : ℕ
-rowsStart = 3715
+rowsStart = policiesStart + 128 * policyWords
+
+abbrev pub rowCount : ℕ
+rowCount = 512
+
+abbrev pub rowWords : ℕ
+rowWords = 4
+
+abbrev pub memoryWords : ℕ
+memoryWords = rowsStart + rowCount * rowWords
 
 -- of the memory's size
 abbrev pub Whole : List ℕ → Type 0
@@ -37,13 +54,34 @@ abbrev pub policyStart : ℕ → ℕ
 policyStart q = policiesStart + policyWords * q
 
 abbrev pub rowStart : ℕ → ℕ
-rowStart r = rowsStart + 4 * r
+rowStart r = rowsStart + rowWords * r
+
+-- ---- the tables of rows
+
+abbrev pub matrixBand : Band
+matrixBand = record { first = 0; step = 1; count = 256 }
+
+abbrev pub selectedBand : Band
+selectedBand = record { first = 256; step = 2; count = 128 }
+
+abbrev pub allowedBand : Band
+allowedBand = record { first = 257; step = 2; count = 128 }
+
+-- where row i of a table stands
+abbrev pub bandRow : Band → ℕ → ℕ
+bandRow t i = t .first + t .step * i
 
 abbrev pub selectedRow : ℕ → ℕ
-selectedRow q = 256 + 2 * q
+selectedRow = bandRow selectedBand
 
 abbrev pub allowedRow : ℕ → ℕ
-allowedRow q = 257 + 2 * q
+allowedRow = bandRow allowedBand
+
+-- a table of at most 256 rows, all of them rows of the memory
+abbrev pub InRows : Band → Type 0
+InRows t = (t .count ≤ 256) × (bandRow t (t .count - 1) < rowCount)
+
+-- ---- words and bits
 
 abbrev pub wordAt : List ℕ → ℕ → ℕ
 wordAt m k = getD m k 0

@@ -1,13 +1,14 @@
--- The memory after each write, as a list of words, and what it then holds. Assumes nothing.
+-- The memory after each write, as a list of words, and what it then holds.
 use mathlib.Core.Bool.{Bool, false, _&&_, cond}
 use mathlib.Core.List.{List, [], _∷_}
-use Prim.Native.Nat.{ℕ, zero, suc, _+_, _*_, _-_, _/_, _%_, _^_}
+use Prim.Native.Nat.{ℕ, zero, suc, _+_, _-_, _/_, _%_, _^_}
 use lib.Bits.{bitAnd, bitOr}
 use lib.Dec.{eqb, leb, ltb}
 use lib.ListN.{length, getD, set, take, replicate}
 use lib.Seq.{sets}
 use Rattle.bitrow.specs.Bit.{bitAt}
-use Rattle.store.specs.Layout.{rowStart, wordAt}
+use Rattle.store.specs.Layout.{rowStart, bandRow, wordAt}
+use Rattle.store.specs.declared.Band.{Band}
 use Rattle.store.specs.Contents.{Contents}
 
 -- ---- the lists
@@ -40,9 +41,9 @@ unfoldable pub runs : (ℕ → List ℕ → List ℕ) → List ℕ → ℕ → L
 runs turn m zero = m
 runs turn m (suc n) = turn n (runs turn m n)
 
--- bit b of row first + step * i made bit i of the values, for each i below count
-unfoldable pub columnSet : List ℕ → ℕ → ℕ → ℕ → ℕ → List ℕ → List ℕ
-columnSet m first step count b values = runs (λ i l. bitSet l (first + step * i) b (bitAt values i)) m count
+-- bit b of each row i of the band made bit i of the values
+unfoldable pub columnSet : List ℕ → Band → ℕ → List ℕ → List ℕ
+columnSet m t b values = runs (λ i l. bitSet l (bandRow t i) b (bitAt values i)) m (t .count)
 
 -- every word 0
 unfoldable pub cleared : List ℕ → List ℕ
@@ -59,24 +60,24 @@ withSlot c start n words = record {
 unfoldable pub withRow : Contents → ℕ → (ℕ → Bool) → Contents
 withRow c r set = record { words = c .words; bits = λ x. cond (eqb x r) set (c .bits x) }
 
--- r is first + step * i for an i below count
-unfoldable pub inRun : ℕ → ℕ → ℕ → ℕ → Bool
-inRun first step count r = leb first r && (eqb ((r - first) % step) 0 && ltb ((r - first) / step) count)
+-- r is a row of the band
+unfoldable pub inBand : Band → ℕ → Bool
+inBand t r = leb (t .first) r && (eqb ((r - t .first) % t .step) 0 && ltb ((r - t .first) / t .step) (t .count))
 
--- row first + step * i made f i of what it was, for each i below count
-unfoldable pub withRows : Contents → ℕ → ℕ → ℕ → (ℕ → (ℕ → Bool) → ℕ → Bool) → Contents
-withRows c first step count f = record {
+-- row i of the band made f i of what it was, for each i below its count
+unfoldable pub withRows : Contents → Band → (ℕ → (ℕ → Bool) → ℕ → Bool) → Contents
+withRows c t f = record {
   words = c .words;
-  bits = λ r. cond (inRun first step count r) (f ((r - first) / step) (c .bits r)) (c .bits r);
+  bits = λ r. cond (inBand t r) (f ((r - t .first) / t .step) (c .bits r)) (c .bits r);
 }
 
 -- a row's bits with bit b made v
 unfoldable pub changed : ℕ → Bool → (ℕ → Bool) → ℕ → Bool
 changed b v old y = cond (eqb y b) v (old y)
 
--- bit b of row first + step * i made set i, for each i below count
-unfoldable pub withColumn : Contents → ℕ → ℕ → ℕ → ℕ → (ℕ → Bool) → Contents
-withColumn c first step count b set = withRows c first step count (λ i. changed b (set i))
+-- bit b of each row i of the band made set i
+unfoldable pub withColumn : Contents → Band → ℕ → (ℕ → Bool) → Contents
+withColumn c t b set = withRows c t (λ i. changed b (set i))
 
 -- every word 0, every bit clear
 unfoldable pub blank : Contents

@@ -1,4 +1,4 @@
--- The lines of findings from their numbers are the findings' lines. Assumes nothing.
+-- The lines of findings from their numbers are the findings' lines.
 use mathlib.Core.Path.{_≡_, refl, sym, ap, ap₂, _∙_}
 use mathlib.Core.List.{List, [], _∷_, _++_, map, append-assoc, append-nil}
 use Prim.Native.Nat.{ℕ, zero, suc, _+_, _*_, _/_, _%_, _<_}
@@ -16,7 +16,7 @@ abbrev pub Small : List Finding → Type 0
 Small [] = Unit
 Small (g ∷ l) = (g .a < 65536) × (g .b < 65536) × Small l
 
-pub code-line : (g : Finding) → g .a < 65536 → g .b < 65536 → codeLine (findingCode g) ≡ findingLine g
+code-line : (g : Finding) → g .a < 65536 → g .b < 65536 → codeLine (findingCode g) ≡ findingLine g
 unfolding codeLine findingCode findingLine
 code-line g h l =
     let n = g .kind * 4294967296 + g .a * 65536 + g .b in
@@ -30,7 +30,7 @@ unfolding codeLines findingLines
 code-lines [] h = refl
 code-lines (g ∷ l) h = ap₂ (λ (x y : List ℕ). x ++ y) (code-line g (h .0) (h .1)) (code-lines l (h .2))
 
-pub code-lines-append : (l k : List ℕ) → codeLines (l ++ k) ≡ codeLines l ++ codeLines k
+code-lines-append : (l k : List ℕ) → codeLines (l ++ k) ≡ codeLines l ++ codeLines k
 unfolding codeLines
 code-lines-append [] k = refl
 code-lines-append (n ∷ l) k = ap (λ (x : List ℕ). codeLine n ++ x) (code-lines-append l k) ∙ sym (append-assoc (codeLine n) (codeLines l) (codeLines k))

@@ -1,8 +1,12 @@
--- The lines of the report, from document 01, "The program and one printed sheet". Assumes nothing.
+-- The lines of the report, from document 01, "The program and one printed sheet".
 use mathlib.Core.List.{List, [], _∷_, _++_}
+use mathlib.Core.Option.{none, some}
 use Prim.Native.Nat.{ℕ, _/_, _%_}
 use Rattle.model.specs.declared.Finding.{Finding}
-use Rattle.text.specs.Text.{decimal, space, newline, ended, named, threeNumbers}
+use Rattle.model.specs.Calls.{Answer}
+use Rattle.model.specs.Calls.{said}
+use Rattle.digits.specs.Decimal.{decimal, ended}
+use Rattle.text.specs.Text.{space, newline, named, threeNumbers}
 
 -- REFUSED
 abbrev refusedWord : List ℕ
@@ -23,6 +27,10 @@ pairsWord = 80 ∷ 65 ∷ 73 ∷ 82 ∷ 83 ∷ []
 -- "A refused block n (from 1) gives `REFUSED n r`"
 unfoldable pub refusedLine : ℕ → ℕ → List ℕ
 refusedLine n r = named refusedWord n space ++ ended (decimal r) newline
+
+-- what the answer to block n gives
+abbrev pub refusedBy : ℕ → Answer → List ℕ
+refusedBy n a = elim (said a .refused) [ none ↦ [] | some r ↦ refusedLine n r ]
 
 -- "one line with the standing counts and PAIRS"
 unfoldable pub countsLine : ℕ → ℕ → ℕ → List ℕ

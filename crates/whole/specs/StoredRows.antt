@@ -1,4 +1,4 @@
--- The rows of the stored bits, read from what is gathered. Assumes nothing.
+-- The rows of the stored bits, read from what is gathered.
 use mathlib.Core.Path.{_≡_}
 use mathlib.Core.Bool.{Bool}
 use mathlib.Core.List.{List}
@@ -7,8 +7,8 @@ use Rattle.bitrow.specs.Bit.{bitAt}
 use Rattle.model.specs.Table.{stands}
 use Rattle.model.specs.Model.{Model, computedBits}
 use Rattle.formed.specs.Registry.{storedBit}
-use Rattle.reach.specs.declared.lines.Gathered.{Gathered}
-use Rattle.reach.specs.Lines.{Gathers}
+use Rattle.matrix_rows.specs.declared.Gathered.{Gathered}
+use Rattle.matrix_rows.specs.Lines.{Gathers}
 
 -- row is row r of the stored bits by the rules, whatever model it is all gathered from for all that stand
 pub record StoredFrom (g : Gathered) (sel alw outs backs : List (List ℕ)) (r : ℕ) (row : List ℕ) : Type 0 where

@@ -5,19 +5,22 @@ use super::*;
 
 pub struct ByLabels;
 
+/// The places of the table of labels.
+const PLACES: usize = 1024;
+
 /// Where probing for a label begins.
 pub fn first_place(label: u64) -> usize {
     (label.wrapping_mul(2_654_435_769) as u32 >> 22) as usize
 }
 
 /// Of eight places, the first that has the label or nothing.
-fn place(labels: &[u64; 1024], label: u64) -> usize {
+fn place(labels: &[u64; PLACES], label: u64) -> usize {
     let mut h = first_place(label);
     for _ in 0..8 {
         if labels[h] == label || labels[h] == 0 {
             break;
         }
-        h = (h + 1) % 1024;
+        h = (h + 1) % PLACES;
     }
     h
 }
@@ -30,18 +33,18 @@ fn labels_of(m: &[u64], part: usize) -> &[u64] {
 }
 
 fn matches(m: &[u64], part: usize, at: usize) -> bool {
-    let c: &[u64; 8] = m[at + 1..at + 9].try_into().unwrap();
+    let c: &[u64; CONTAINER_LABELS] = m[at + 1..at + CONTAINER_WORDS].try_into().unwrap();
     labels_of(m, part).iter().all(|w| c.iter().fold(false, |t, v| t | (v == w)))
 }
 
 fn trial(m: &[u64], part: usize, candidates: Row) -> Row {
-    let mut row = [0; 4];
-    for k in 0..4 {
+    let mut row = EMPTY;
+    for k in 0..ROW_WORDS {
         let mut rest = candidates[k];
         while rest != 0 {
             let i = rest.trailing_zeros() as usize;
             rest &= rest - 1;
-            if matches(m, part, CONTAINERS + 9 * (64 * k + i)) {
+            if matches(m, part, layout::container(64 * k + i)) {
                 row[k] |= 1 << i;
             }
         }
@@ -50,16 +53,16 @@ fn trial(m: &[u64], part: usize, candidates: Row) -> Row {
 }
 
 struct LabelRows {
-    labels: [u64; 1024],
-    rows: [Row; 1024],
+    labels: [u64; PLACES],
+    rows: [Row; PLACES],
 }
 
 impl LabelRows {
     /// The labels of all parts, and every container in the rows of its labels.
     fn fill(&mut self, m: &[u64]) {
-        for q in 0..128 {
-            let at = POLICIES + 11 * q;
-            for part in [at + 1, at + 6] {
+        for q in 0..POLICY_SLOTS {
+            let at = layout::policy(q);
+            for part in [at + SELECT, at + ALLOW] {
                 for label in labels_of(m, part) {
                     let h = place(&self.labels, *label);
                     if self.labels[h] == 0 {
@@ -68,8 +71,8 @@ impl LabelRows {
                 }
             }
         }
-        for c in 0..256 {
-            for label in labels_of(m, CONTAINERS + 9 * c) {
+        for c in 0..CONTAINER_SLOTS {
+            for label in labels_of(m, layout::container(c)) {
                 let h = place(&self.labels, *label);
                 if self.labels[h] == *label {
                     put(&mut self.rows[h], c);
@@ -88,7 +91,11 @@ impl LabelRows {
                 all = false;
             }
         }
-        if all { left } else { trial(m, part, left) }
+        if all {
+            left
+        } else {
+            trial(m, part, left)
+        }
     }
 }
 
@@ -97,20 +104,20 @@ fn fill(m: &[u64], s: &mut Sets, known: Option<usize>) {
     if is_empty(&either(s.ingress, s.egress)) {
         return;
     }
-    let mut l = LabelRows { labels: [0; 1024], rows: [[0; 4]; 1024] };
+    let mut l = LabelRows { labels: [0; PLACES], rows: [EMPTY; PLACES] };
     l.fill(m);
-    for q in 0..128 {
-        let at = POLICIES + 11 * q;
+    for q in 0..POLICY_SLOTS {
+        let at = layout::policy(q);
         if m[at] != 0 && known != Some(q) {
-            s.selected[q] = l.matching(m, at + 1, s.containers);
-            s.allowed[q] = l.matching(m, at + 6, s.containers);
+            s.selected[q] = l.matching(m, at + SELECT, s.containers);
+            s.allowed[q] = l.matching(m, at + ALLOW, s.containers);
         }
     }
 }
 
-fn join(lines: &mut [Row; 256], who: Row, whom: Row) {
-    for k in 0..4 {
-        let mut rest = who[k];
+fn join(lines: &mut [Row; CONTAINER_SLOTS], who: Row, whom: Row) {
+    for (k, word) in who.into_iter().enumerate() {
+        let mut rest = word;
         while rest != 0 {
             let a = 64 * k + rest.trailing_zeros() as usize;
             rest &= rest - 1;
@@ -121,8 +128,8 @@ fn join(lines: &mut [Row; 256], who: Row, whom: Row) {
 
 /// The rows of some containers, and no others.
 fn lines(s: &Sets, some: Row, mut each: impl FnMut(usize, Row)) {
-    let (mut outs, mut backs) = ([[0; 4]; 256], [[0; 4]; 256]);
-    for q in 0..128 {
+    let (mut outs, mut backs) = ([EMPTY; CONTAINER_SLOTS], [EMPTY; CONTAINER_SLOTS]);
+    for q in 0..POLICY_SLOTS {
         if has(&s.egress, q) {
             join(&mut outs, both(s.selected[q], some), s.allowed[q]);
         } else if has(&s.ingress, q) {
@@ -130,7 +137,7 @@ fn lines(s: &Sets, some: Row, mut each: impl FnMut(usize, Row)) {
         }
     }
     let (bound, chosen) = (union(&s.egress, &s.selected), union(&s.ingress, &s.selected));
-    for a in 0..256 {
+    for a in 0..CONTAINER_SLOTS {
         if has(&some, a) {
             let there = if has(&bound, a) { both(s.containers, outs[a]) } else { s.containers };
             each(a, either(except(there, chosen), both(there, backs[a])));
@@ -144,10 +151,10 @@ fn reset(m: &mut [u64], q: usize, direction: u64, selected: Row) {
         return;
     }
     let mut s = Sets::new(m);
-    s.selected[q] = row_at(m, 256 + 2 * q);
-    s.allowed[q] = row_at(m, 257 + 2 * q);
+    s.selected[q] = row_at(m, layout::selected(q));
+    s.allowed[q] = row_at(m, layout::allowed(q));
     fill(m, &mut s, Some(q));
-    let (rows, columns) = if direction == 2 { (selected, s.containers) } else { (s.containers, selected) };
+    let (rows, columns) = if direction == EGRESS { (selected, s.containers) } else { (s.containers, selected) };
     lines(&s, rows, |a, row| set_row(m, a, either(except(row_at(m, a), columns), both(row, columns))));
 }
 
@@ -167,16 +174,16 @@ impl Algorithms for ByLabels {
     }
 
     fn policy_admitted(m: &mut [u64], q: usize) {
-        let (at, containers) = (POLICIES + 11 * q, standing(m, CONTAINERS, 9, 256));
-        let (selected, allowed) = (trial(m, at + 1, containers), trial(m, at + 6, containers));
-        set_row(m, 256 + 2 * q, selected);
-        set_row(m, 257 + 2 * q, allowed);
+        let (at, containers) = (layout::policy(q), standing(m, CONTAINER_TABLE));
+        let (selected, allowed) = (trial(m, at + SELECT, containers), trial(m, at + ALLOW, containers));
+        set_row(m, layout::selected(q), selected);
+        set_row(m, layout::allowed(q), allowed);
         reset(m, q, m[at], selected);
     }
 
     fn policy_removed(m: &mut [u64], q: usize, direction: u64, selected: Row) {
-        set_row(m, 256 + 2 * q, [0; 4]);
-        set_row(m, 257 + 2 * q, [0; 4]);
+        set_row(m, layout::selected(q), EMPTY);
+        set_row(m, layout::allowed(q), EMPTY);
         reset(m, q, direction, selected);
     }
 
@@ -186,6 +193,6 @@ impl Algorithms for ByLabels {
 
     fn rows(s: &Sets, mut each: impl FnMut(usize, Row)) {
         lines(s, s.containers, &mut each);
-        (0..256).filter(|a| !has(&s.containers, *a)).for_each(|a| each(a, [0; 4]));
+        (0..CONTAINER_SLOTS).filter(|a| !has(&s.containers, *a)).for_each(|a| each(a, EMPTY));
     }
 }

@@ -15,9 +15,9 @@ impl Algorithms for ByTrials {
     }
 
     fn part_row(m: &[u64], part: usize, containers: Row) -> Row {
-        let (mut row, mut from) = ([0; 4], 0);
+        let (mut row, mut from) = (EMPTY, 0);
         while let Some(c) = next_from(&containers, from) {
-            if matches(m, part, CONTAINERS + 9 * c) {
+            if matches(m, part, layout::container(c)) {
                 put(&mut row, c);
             }
             from = c + 1;
@@ -32,20 +32,20 @@ impl Algorithms for ByTrials {
     }
 
     fn policy_admitted(m: &mut [u64], q: usize) {
-        let at = POLICIES + 11 * q;
-        let selected = Self::part_row(m, at + 1, standing(m, CONTAINERS, 9, 256));
+        let at = layout::policy(q);
+        let selected = Self::part_row(m, at + SELECT, standing(m, CONTAINER_TABLE));
         Self::policy_removed(m, q, m[at], selected);
     }
 
     fn policy_removed(m: &mut [u64], q: usize, direction: u64, selected: Row) {
         let mut s = Sets::new(m);
         Self::sets(m, &mut s);
-        set_row(m, 256 + 2 * q, s.selected[q]);
-        set_row(m, 257 + 2 * q, s.allowed[q]);
+        set_row(m, layout::selected(q), s.selected[q]);
+        set_row(m, layout::allowed(q), s.allowed[q]);
         let chosen = union(&s.ingress, &s.selected);
-        for a in 0..256 {
+        for a in 0..CONTAINER_SLOTS {
             let mask = match direction {
-                1 => selected,
+                INGRESS => selected,
                 _ if has(&selected, a) => s.containers,
                 _ => continue,
             };
@@ -57,18 +57,18 @@ impl Algorithms for ByTrials {
     }
 
     fn sets(m: &[u64], s: &mut Sets) {
-        for q in 0..128 {
-            let at = POLICIES + 11 * q;
+        for q in 0..POLICY_SLOTS {
+            let at = layout::policy(q);
             if m[at] == 0 {
                 continue;
             }
             let mut from = 0;
             while let Some(c) = next_from(&s.containers, from) {
-                let slot = CONTAINERS + 9 * c;
-                if matches(m, at + 1, slot) {
+                let slot = layout::container(c);
+                if matches(m, at + SELECT, slot) {
                     put(&mut s.selected[q], c);
                 }
-                if matches(m, at + 6, slot) {
+                if matches(m, at + ALLOW, slot) {
                     put(&mut s.allowed[q], c);
                 }
                 from = c + 1;
@@ -78,7 +78,7 @@ impl Algorithms for ByTrials {
 
     fn rows(s: &Sets, mut each: impl FnMut(usize, Row)) {
         let chosen = union(&s.ingress, &s.selected);
-        for a in 0..256 {
+        for a in 0..CONTAINER_SLOTS {
             each(a, by_rules(s, &s.egress, &s.ingress, chosen, a));
         }
     }

@@ -2,10 +2,13 @@
 //! run, CPU time. `bench` prints a table over the registries and what is above its bar; `bench --growth` how the times grow with
 //! the number of entries.
 
+use bihokura_tests::answers::{outcome, Finding, START};
 use bihokura_tests::baseline::{self as b, ByLabels, ByTrials};
-use bihokura_tests::reference::numbers;
+use bihokura_tests::bytes::{self, EGRESS, INGRESS};
+use bihokura_tests::layout::{CONTAINER_SLOTS, POLICY_SLOTS, WORDS};
+use bihokura_tests::process::PROGRAM;
 use bihokura_tests::registries::{self, settings, Registry};
-use bihokura_tests::{bytes, c, clock};
+use bihokura_tests::{c, clock, walks};
 use std::cell::RefCell;
 use std::fs::File;
 use std::hint::black_box;
@@ -95,7 +98,9 @@ macro_rules! alike {
 
 /// Times of a call that leaves the memory as it is.
 fn still(name: &'static str, m: &RefCell<Vec<u64>>, [ours, same, release]: [Side; 3]) -> Line {
-    let work = |side: Side| { black_box(side(&mut m.borrow_mut(), 0)); };
+    let work = |side: Side| {
+        black_box(side(&mut m.borrow_mut(), 0));
+    };
     line(name, times(clock::thread, [&mut || work(ours), &mut || work(same), &mut || work(release)]), 1)
 }
 
@@ -108,7 +113,7 @@ fn changes(name: &'static str, all: &[Change], forth: bool, sides: [Side; 3]) ->
     for (i, (from, to)) in all.iter().enumerate() {
         for side in sides {
             let mut m = from.clone();
-            assert!(side(&mut m, i) >> 56 == 0 && m == *to, "{name}: entry {i}");
+            assert!(outcome(side(&mut m, i)).is_ok() && m == *to, "{name}: entry {i}");
         }
     }
     let words = |(from, to): &Change| (0..from.len()).map(|i| (i, from[i], to[i])).filter(|(_, x, y)| x != y).collect();
@@ -137,12 +142,10 @@ fn changes(name: &'static str, all: &[Change], forth: bool, sides: [Side; 3]) ->
         }
     };
     let [ours, same, release] = sides;
-    let [ours, same, release, both_ways] = times(clock::thread, [
-        &mut || work(ours),
-        &mut || work(same),
-        &mut || work(release),
-        &mut || (0..all.len()).for_each(there_and_back),
-    ]);
+    let [ours, same, release, both_ways] = times(
+        clock::thread,
+        [&mut || work(ours), &mut || work(same), &mut || work(release), &mut || (0..all.len()).for_each(there_and_back)],
+    );
     line(name, [ours, same, release].map(|t| t - both_ways / 2.0), all.len())
 }
 
@@ -152,7 +155,7 @@ fn entries(full: &[u64], r: &Registry, containers: &[usize], policies: &[usize])
     let without = |slots: &[usize], remove: Side| -> Vec<Change> {
         let out = |slot: &usize| {
             let mut m = full.to_vec();
-            assert_eq!(remove(&mut m, *slot), 0);
+            assert_eq!(outcome(remove(&mut m, *slot)), Ok(0));
             (full.to_vec(), m)
         };
         slots.iter().map(out).collect()
@@ -177,37 +180,21 @@ fn entries(full: &[u64], r: &Registry, containers: &[usize], policies: &[usize])
 }
 
 const DIRECTIONS: [(u8, &str, &str); 2] = [
-    (1, "admit an ingress policy", "remove an ingress policy"),
-    (2, "admit an egress policy", "remove an egress policy"),
+    (INGRESS, "admit an ingress policy", "remove an ingress policy"),
+    (EGRESS, "admit an egress policy", "remove an egress policy"),
 ];
 
-/// A whole walk from the start.
-fn walk(m: &[u64], next: impl Fn(&[u64], u16, u16, u16) -> u64) -> u64 {
-    let (mut k, mut x, mut y, mut n) = (0, 0, 0, 0);
-    loop {
-        let f = next(m, k, x, y);
-        if f == 0 {
-            return n;
-        }
-        (k, x, y) = numbers(f);
-        n += 1;
-    }
+/// How many findings a whole walk meets.
+fn walk(m: &[u64], next: impl Fn(&[u64], Finding) -> u64) -> u64 {
+    walks::walk(|after| next(m, after)).count() as u64
 }
 
 const BY_LISTS: &str = "a whole walk by findings, 256 at a time";
 
-/// The same, 256 findings at a time.
-fn walk_by_lists(m: &[u64], findings: impl Fn(&[u64], u16, u16, u16, &mut [u64]) -> u64) -> u64 {
-    let (mut k, mut x, mut y, mut n) = (0, 0, 0, 0);
-    let mut list = [0; 256];
-    loop {
-        let more = findings(m, k, x, y, &mut list);
-        n += more;
-        if more < 256 {
-            return n;
-        }
-        (k, x, y) = numbers(list[255]);
-    }
+fn walk_by_lists(m: &[u64], findings: impl Fn(&[u64], Finding, &mut [u64]) -> u64) -> u64 {
+    let mut n = 0;
+    walks::walk_by_lists(|after, list| findings(m, after, list), &mut [0; 256], || 256, |some| n += some.len() as u64);
+    n
 }
 
 /// The calls that leave the memory as it is: here rebuild too, since the registry is consistent. Open comes last.
@@ -216,25 +203,18 @@ fn others(full: &[u64], r: &Registry) -> Vec<Line> {
     let mut bad = r.containers[0].clone();
     bad[509] = 1;
     bytes::seal(&mut bad);
+    let plain_walk: Side = &|m, _| walk(m, b::next_finding);
     let mut lines = vec![
         still("admit, refused with 9", &m, sides!(|_| admit(&bad))),
         still("reaches", &m, alike!(|_| reaches(0, 0))),
         still("carries user", &m, alike!(|_| carries_user(0, 4))),
         still("counts", &m, alike!(|_| counts())),
-        still("next finding, first", &m, alike!(|_| next_finding(0, 0, 0))),
-        still("next finding, last", &m, alike!(|_| next_finding(7, 255, 255))),
+        still("next finding, first", &m, alike!(|_| next_finding(START))),
+        still("next finding, last", &m, alike!(|_| next_finding((7, 255, 255)))),
         still("rebuild", &m, sides!(|_| rebuild())),
         still("audit", &m, sides!(|_| audit())),
-        still("a whole walk", &m, [
-            &|m, _| walk(m, c::next_finding),
-            &|m, _| walk(m, b::next_finding),
-            &|m, _| walk(m, b::next_finding),
-        ]),
-        still(BY_LISTS, &m, [
-            &|m, _| walk_by_lists(m, c::findings),
-            &|m, _| walk_by_lists(m, b::findings),
-            &|m, _| walk(m, b::next_finding),
-        ]),
+        still("a whole walk", &m, [&|m, _| walk(m, c::next_finding), plain_walk, plain_walk]),
+        still(BY_LISTS, &m, [&|m, _| walk_by_lists(m, c::findings), &|m, _| walk_by_lists(m, b::findings), plain_walk]),
     ];
     assert_eq!(walk_by_lists(full, c::findings), walk(full, b::next_finding));
     assert!(*m.borrow() == full);
@@ -245,23 +225,23 @@ fn others(full: &[u64], r: &Registry) -> Vec<Line> {
 
 /// An open and the admission of all these blocks, one after another: the time of one admission on the way.
 fn filling(name: &'static str, blocks: &[&Vec<u8>]) -> Line {
-    let m = RefCell::new(vec![0; b::WORDS]);
+    let m = RefCell::new(vec![0; WORDS]);
     let fill = |m: &mut [u64], open: &dyn Fn(&mut [u64], &[u8]) -> u64, admit: &dyn Fn(&mut [u64], &[u8]) -> u64| {
         open(m, &settings()) + blocks.iter().map(|block| admit(m, block)).sum::<u64>()
     };
-    let l = still(name, &m, [
-        &|m, _| fill(m, &c::open, &c::admit),
-        &|m, _| fill(m, &b::open::<ByLabels>, &b::admit::<ByLabels>),
-        &|m, _| fill(m, &b::open::<ByTrials>, &b::admit::<ByTrials>),
-    ]);
+    let ours: Side = &|m, _| fill(m, &c::open, &c::admit);
+    let same: Side = &|m, _| fill(m, &b::open::<ByLabels>, &b::admit::<ByLabels>);
+    let release: Side = &|m, _| fill(m, &b::open::<ByTrials>, &b::admit::<ByTrials>);
+    let l = still(name, &m, [ours, same, release]);
     let each = |t: f64| t / blocks.len() as f64;
     Line { ours: each(l.ours), same: each(l.same), release: each(l.release), ..l }
 }
 
 fn all_calls(r: &Registry, containers: usize, policies: usize) -> Vec<Line> {
-    let full = r.memory(containers, policies);
+    let full = r.memory_of(containers, policies);
     // the slots of a full table, or as many over the whole of a smaller one
-    let some = |slots: Vec<usize>, n: usize| if n < 128 { (0..n.min(16)).map(|i| i * (n - 1) / 15).collect() } else { slots };
+    let some =
+        |slots: Vec<usize>, n: usize| if n < POLICY_SLOTS { (0..n.min(16)).map(|i| i * (n - 1) / 15).collect() } else { slots };
     let cs = some(registries::containers().filter(|i| *i < containers).collect(), containers);
     let ps = some(registries::policies().filter(|i| *i < policies).collect(), policies);
     let (x, y) = (&r.containers[..containers], &r.policies[..policies]);
@@ -283,15 +263,16 @@ fn lister(r: &Registry, containers: usize, policies: usize) -> Line {
         let child = Command::new(program).args(by).stdin(File::open(&file).unwrap()).output();
         child.unwrap_or_else(|e| panic!("{}: {e}", program.display())).stdout
     };
-    let ours = std::path::Path::new(concat!(env!("CARGO_MANIFEST_DIR"), "/../target/bin/lister"));
+    let ours = std::path::Path::new(PROGRAM);
     let plain = std::env::current_exe().unwrap().with_file_name("plain_lister");
     assert_eq!(run(ours, &[]), run(&plain, &["labels"]));
     assert_eq!(run(ours, &[]), run(&plain, &["trials"]));
-    let l = line("lister", times(clock::children, [
-        &mut || { black_box(run(ours, &[])); },
-        &mut || { black_box(run(&plain, &["labels"])); },
-        &mut || { black_box(run(&plain, &["trials"])); },
-    ]), 1);
+    let work = |program: &std::path::Path, by: &[&str]| {
+        black_box(run(program, by));
+    };
+    let works: [&mut dyn FnMut(); 3] =
+        [&mut || work(ours, &[]), &mut || work(&plain, &["labels"]), &mut || work(&plain, &["trials"])];
+    let l = line("lister", times(clock::children, works), 1);
     std::fs::remove_file(&file).unwrap();
     l
 }
@@ -300,10 +281,11 @@ fn lister(r: &Registry, containers: usize, policies: usize) -> Line {
 /// in 5 as many labels stand as there are places (docs/DECISIONS.md, 34); lister has none to the same.
 fn bars(name: &str, registry: &str) -> (f64, f64) {
     let release = match name {
-        "rebuild" | "audit" => if registry < "6" { 0.15 } else { 1.0 },
-        "admit a container" => if registry < "5" { 0.15 } else { 1.0 },
-        _ if name.contains("gress") => if registry < "5" { 0.15 } else { 1.0 },
-        _ if name.starts_with("filling") => 1.0,
+        "rebuild" | "audit" if registry < "6" => 0.15,
+        "admit a container" if registry < "5" => 0.15,
+        _ if name.contains("gress") && registry < "5" => 0.15,
+        "rebuild" | "audit" | "admit a container" => 1.0,
+        _ if name.contains("gress") || name.starts_with("filling") => 1.0,
         BY_LISTS => 0.08,
         "lister" => 1.0 / 3.0,
         _ => f64::INFINITY,
@@ -333,13 +315,13 @@ fn main() {
     let all = registries::all();
     let args: Vec<String> = std::env::args().skip(1).collect();
     if args.iter().any(|a| a == "--growth") {
-        let sizes = [(1, 0), (32, 16), (64, 32), (128, 64), (256, 128)];
+        let sizes = [(1, 0), (32, 16), (64, 32), (128, 64), (CONTAINER_SLOTS, POLICY_SLOTS)];
         let tables: Vec<Vec<Line>> = sizes.iter().map(|(x, y)| all_calls(&all[0], *x, *y)).collect();
         print(&sizes.map(|(x, y)| format!("{x} and {y}")), &tables);
         return;
     }
     let some: Vec<&Registry> = all.iter().filter(|r| args.is_empty() || args.iter().any(|a| a == r.name)).collect();
-    let tables: Vec<Vec<Line>> = some.iter().map(|r| all_calls(r, 256, 128)).collect();
+    let tables: Vec<Vec<Line>> = some.iter().map(|r| all_calls(r, CONTAINER_SLOTS, POLICY_SLOTS)).collect();
     print(&some.iter().map(|r| format!("registry {}", r.name)).collect::<Vec<_>>(), &tables);
     for (r, table) in some.iter().zip(&tables) {
         for l in table {

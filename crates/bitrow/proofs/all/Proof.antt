@@ -1,4 +1,4 @@
--- `bitrow::all` meets its contract. Assumes nothing.
+-- A row of four full words has every number below 256.
 use Rattle.bitrow.proofs.Rows.{ones-row}
 use Rattle.bitrow.proofs.all.Statement.{statement}
 use Rattle.bitrow.proofs.all.Tie as tie

@@ -1,4 +1,4 @@
--- `bitrow::at_least` meets its contract. Assumes nothing.
+-- All numbers less those below i.
 use Rattle.bitrow.specs.Set.{under}
 use Rattle.bitrow.proofs.Sets.{less-meet, less-under}
 use borrow.Author.Needs.{needs}

@@ -1,4 +1,4 @@
--- `bitrow::below` meets its contract. Assumes nothing.
+-- Each word has the low bits of what is left of i past the words before it.
 use Rattle.bitrow.proofs.Rows.{low-row}
 use borrow.Author.Needs.{needs}
 use Rattle.bitrow.proofs.below.Statement.{statement}

@@ -1,4 +1,4 @@
--- `bitrow::bit_of` meets its contract. Assumes nothing.
+-- The bit that a shift and a mask leave.
 use Rattle.bitrow.proofs.Words.{bit-test}
 use borrow.Author.Needs.{needs}
 use Rattle.bitrow.proofs.bit_of.Statement.{statement}

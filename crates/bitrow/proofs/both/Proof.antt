@@ -1,4 +1,4 @@
--- `bitrow::both` meets its contract. Assumes nothing.
+-- Word by word, a bit of the words' `&` is a bit of both.
 use Rattle.bitrow.proofs.Rows.{and-row}
 use borrow.Author.Needs.{needs}
 use Rattle.bitrow.proofs.both.Statement.{statement}

@@ -1,4 +1,4 @@
--- `bitrow::count` meets its contract. Assumes nothing.
+-- The ones of the four words add up to the size of the set.
 use native.Mathlib.Omega.{arith}
 use Rattle.bitrow.specs.Bit.{Row}
 use Rattle.bitrow.proofs.Rows.{size-row, ones-le-row}

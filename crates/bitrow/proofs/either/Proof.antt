@@ -1,4 +1,4 @@
--- `bitrow::either` meets its contract. Assumes nothing.
+-- Word by word, a bit of the words' `|` is a bit of either.
 use Rattle.bitrow.proofs.Rows.{or-row}
 use borrow.Author.Needs.{needs}
 use Rattle.bitrow.proofs.either.Statement.{statement}

@@ -1,4 +1,4 @@
--- `bitrow::except` meets its contract. Assumes nothing.
+-- Word by word, a bit of `a & !b` is a bit of a and not of b.
 use Rattle.bitrow.proofs.Rows.{and-not-row}
 use borrow.Author.Needs.{needs}
 use Rattle.bitrow.proofs.except.Statement.{statement}

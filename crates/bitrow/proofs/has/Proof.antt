@@ -1,4 +1,4 @@
--- `bitrow::has` meets its contract. Assumes nothing.
+-- The word i / 64 has the bit.
 use Rattle.bitrow.specs.Bit.{bitAt}
 use borrow.Author.Needs.{needs}
 use Rattle.bitrow.proofs.has.Statement.{statement}

@@ -1,4 +1,4 @@
--- `bitrow::is_empty` meets its contract. Assumes nothing.
+-- The four words joined are 0 exactly if no bit is set.
 use Rattle.bitrow.proofs.Rows.{empty-row}
 use borrow.Author.Needs.{needs}
 use Rattle.bitrow.proofs.is_empty.Statement.{statement}

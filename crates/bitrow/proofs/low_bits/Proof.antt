@@ -1,4 +1,4 @@
--- `bitrow::low_bits` meets its contract. Assumes nothing.
+-- 2^n - 1 has the n low bits; from 64 on, all.
 use native.Mathlib.Omega.{arith}
 use mathlib.Core.Path.{sym, ap, _∙_}
 use Prim.Native.Nat.{ℕ, _-_}

@@ -1,4 +1,4 @@
--- `bitrow::next_from` meets its contract. The invariant: what is lowest from i on is what is lowest from `at` on. Assumes nothing.
+-- The invariant: what is lowest from i on is what is lowest from `at` on.
 use native.Mathlib.Omega.{arith}
 use mathlib.Core.Path.{_≡_, refl, sym, _∙_}
 use Prim.Native.Nat.{_-_}

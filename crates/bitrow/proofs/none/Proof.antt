@@ -1,4 +1,4 @@
--- `bitrow::none` meets its contract. Assumes nothing.
+-- Four words of 0 have no bit.
 use Rattle.bitrow.proofs.Rows.{zeros-row}
 use Rattle.bitrow.proofs.none.Statement.{statement}
 use Rattle.bitrow.proofs.none.Tie as tie

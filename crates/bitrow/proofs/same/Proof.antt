@@ -1,4 +1,4 @@
--- `bitrow::same` meets its contract. Assumes nothing.
+-- Rows whose words are equal have equal bits, and the other way round.
 use Rattle.bitrow.proofs.Rows.{equal-row}
 use borrow.Author.Needs.{needs}
 use Rattle.bitrow.proofs.same.Statement.{statement}

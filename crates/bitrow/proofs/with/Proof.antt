@@ -1,4 +1,4 @@
--- `bitrow::with` meets its contract. Assumes nothing.
+-- Only the word i / 64 changes, and there only bit i.
 use Rattle.bitrow.proofs.Rows.{insert-row}
 use borrow.Author.Needs.{needs}
 use Rattle.bitrow.proofs.with.Statement.{statement}

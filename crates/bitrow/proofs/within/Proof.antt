@@ -1,4 +1,4 @@
--- `bitrow::within` meets its contract. Assumes nothing.
+-- By definition: nothing of a is left without b.
 use Rattle.bitrow.specs.Set.{part}
 use borrow.Author.Needs.{needs}
 use Rattle.bitrow.proofs.within.Statement.{statement}

@@ -1,4 +1,4 @@
--- `bitrow::without` meets its contract. Assumes nothing.
+-- Only the word i / 64 changes, and there only bit i.
 use Rattle.bitrow.proofs.Rows.{remove-row}
 use borrow.Author.Needs.{needs}
 use Rattle.bitrow.proofs.without.Statement.{statement}

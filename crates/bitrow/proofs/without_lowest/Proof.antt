@@ -1,4 +1,4 @@
--- `bitrow::without_lowest` meets its contract. Assumes nothing.
+-- `w & (w - 1)` clears the lowest bit that is set.
 use mathlib.Core.Path.{_∙_, fun-ext}
 use Prim.Native.Nat.{_-_}
 use native.Mathlib.Omega.{arith}

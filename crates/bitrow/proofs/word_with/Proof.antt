@@ -1,4 +1,4 @@
--- `bitrow::word_with` meets its contract. Assumes nothing.
+-- A word joined with 2^i has bit i besides its own.
 use Rattle.bitrow.proofs.Rows.{insert-bit}
 use borrow.Author.Needs.{needs}
 use Rattle.bitrow.proofs.word_with.Statement.{statement}

@@ -1,4 +1,4 @@
--- `container_changes::put_container` meets its contract. Assumes nothing.
+-- The slot's words make the image of a registry with the container, and `refresh` its bits.
 use native.Mathlib.Omega.{arith}
 use Rattle.formed.proofs.Reading.{formed-whole}
 use Rattle.container_changes.proofs.ContainerLaws.{slot-count, put-formed, put-done}

@@ -1,4 +1,4 @@
--- `container_changes::refresh` meets its contract. Assumes nothing.
+-- The sets by the entries, the row and the column by the rules, and `holding` give the bits that are stored.
 use mathlib.Core.Path.{_∙_}
 use native.Mathlib.Omega.{arith}
 use Rattle.block.specs.Reader.{directionOf}

@@ -1,4 +1,4 @@
--- `container_changes::start` meets its contract. Assumes nothing.
+-- The settings stored in a memory that was cleared.
 use native.Mathlib.Omega.{arith}
 use Rattle.block.specs.Reading.{settingsOf}
 use Rattle.container_changes.proofs.ContainerLaws.{started}

@@ -1,4 +1,4 @@
--- `container_changes::take_container` meets its contract. Assumes nothing.
+-- By the rules the bits of a free slot are clear, so empty rows are stored.
 use mathlib.Core.Path.{refl}
 use native.Mathlib.Omega.{arith}
 use Rattle.formed.proofs.Reading.{formed-whole}

@@ -1,4 +1,4 @@
--- The search ends: the slots that are left become fewer.
+-- The search from this slot on: one step of `firstOf` for each way.
 use borrow.Author.Needs.{needs}
 use native.Mathlib.Omega.{arith}
 use mathlib.Core.Path.{sym, _∙_}

@@ -1,3 +1,4 @@
+-- The answer is that of the labels from i on.
 use native.Mathlib.Omega.{arith}
 use mathlib.Core.Path.{_≡_, sym, _∙_}
 use Prim.Native.Nat.{_-_}

@@ -1,3 +1,4 @@
+-- What the search of the first words finds is the table's lowest free slot.
 use mathlib.Core.Path.{sym, ap, _∙_}
 use Rattle.entries.specs.Entries.{freeContainer}
 use Rattle.entries.proofs.FreeSlots.{container-found, containers-full}

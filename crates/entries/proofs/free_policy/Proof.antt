@@ -1,3 +1,4 @@
+-- As for containers, over the slots of policies.
 use mathlib.Core.Path.{sym, ap, _∙_}
 use Rattle.entries.specs.Entries.{freePolicy}
 use Rattle.entries.proofs.FreeSlots.{policy-found, policies-full}

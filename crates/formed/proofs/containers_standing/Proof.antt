@@ -1,4 +1,4 @@
--- `formed::containers_standing` meets its contract. Assumes nothing.
+-- Four words of free slots, turned round, make the row.
 use Rattle.formed.proofs.Standing.{containers-row}
 use borrow.Author.Needs.{needs}
 use Rattle.formed.proofs.containers_standing.Statement.{statement}
@@ -11,13 +11,4 @@ returns c =
 
 pub containers-standing-spec : {M : Type 1} → statement M
 containers-standing-spec =
-    tie.close
-    (tie.spec
-    (λ c κs. search needs)
-    (λ c. search needs)
-    (λ c κs. search needs)
-    (λ c. search needs)
-    (λ c κs. search needs)
-    (λ c. search needs)
-    (λ c κs. search needs)
-    returns)
+    tie.close (tie.spec (λ c κs. search needs) (λ c κs. search needs) (λ c κs. search needs) (λ c κs. search needs) returns)

@@ -1,4 +1,4 @@
--- `formed::policies_standing` meets its contract. Assumes nothing.
+-- Two words of free slots, turned round, make the row.
 use Rattle.formed.proofs.Standing.{policies-row}
 use borrow.Author.Needs.{needs}
 use Rattle.formed.proofs.policies_standing.Statement.{statement}
@@ -8,5 +8,4 @@ returns : tie.Need-returns
 returns c = policies-row (c .before .before .before .args .memory .now) _ _ (search needs) (search needs) (c .before .slots-with .ensures) (c .slots-with2 .ensures)
 
 pub policies-standing-spec : {M : Type 1} → statement M
-policies-standing-spec =
-    tie.close (tie.spec (λ c κs. search needs) (λ c. search needs) (λ c κs. search needs) returns)
+policies-standing-spec = tie.close (tie.spec (λ c κs. search needs) (λ c κs. search needs) returns)

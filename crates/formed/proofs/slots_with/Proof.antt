@@ -1,4 +1,4 @@
--- `formed::slots_with` meets its contract. Assumes nothing.
+-- The word has those of the first i slots whose first word is this one.
 use mathlib.Core.Path.{_≡_}
 use Prim.Native.Nat.{_+_, _*_, _-_, _≤_, _<_}
 use lib.ListN.{length}
@@ -6,7 +6,7 @@ use native.Mathlib.Omega.{arith}
 use Rattle.bitrow.specs.Bit.{bit}
 use Rattle.bitrow.specs.Set.{meet, under}
 use Rattle.formed.specs.Tests.{firsts}
-use Rattle.formed.proofs.Standing.{word-none, firsts-skip, firsts-take, slot-within}
+use Rattle.formed.proofs.Standing.{word-none, firsts-skip, firsts-take, first-within}
 use borrow.Author.Needs.{needs}
 use Rattle.formed.proofs.slots_with.Statement.{statement}
 use Rattle.formed.proofs.slots_with.Tie as tie
@@ -23,7 +23,7 @@ loop-holds c = (search needs, word-none _)
 -- the slot's first word lies within the memory
 slot : (c : tie.In-loop Inv-loop μ-loop)
     → c .before .before .before .args .at + c .before .before .before .args .step * c .before .loop .i < length (c .before .before .before .args .memory .now)
-slot c = let s = c .before .before .before in slot-within (s .args .at) (s .args .step) (c .before .loop .i) 64 _ (c .loop-test .taken) (s .pre .1) (s .pre .0)
+slot c = let s = c .before .before .before in first-within (s .args .at) (s .args .step) (c .before .loop .i) 64 _ (c .loop-test .taken) (s .pre .1) (s .pre .0)
 
 mul-if1 : tie.Need-mul-if1 Inv-loop μ-loop
 mul-if1 c = let w = slot c in omega arith

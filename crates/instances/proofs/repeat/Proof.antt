@@ -1,4 +1,4 @@
--- `repeat` is safe and ends: the times left fall. Assumes nothing.
+-- The times left fall.
 use mathlib.Core.Path.{_≡_}
 use lib.ListN.{length}
 use borrow.Author.Needs.{needs}

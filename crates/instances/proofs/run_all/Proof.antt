@@ -1,4 +1,4 @@
--- `run_all` is safe and ends: the cases left fall. Assumes nothing.
+-- The cases left fall.
 use mathlib.Core.Path.{_≡_}
 use Prim.Native.Nat.{_-_}
 use lib.ListN.{length}

@@ -1,4 +1,4 @@
--- `pump` is safe and ends: each turn is lent some input, or that it has ended, and so the state has less ahead. Assumes nothing.
+-- Each turn is lent some input, or that it has ended, and so the state has less ahead.
 use mathlib.Core.Path.{_≡_, sym, _∙_, subst}
 use Prim.Native.Nat.{_≤_, _<_}
 use native.Mathlib.Omega.{arith}

@@ -1,4 +1,4 @@
--- `refill` meets its contract. Assumes nothing.
+-- What was read lies within the buffer; nothing read is the end.
 use mathlib.Core.Path.{sym, _∙_}
 use mathlib.Core.Bool.{true≢false}
 use native.Mathlib.Omega.{arith}

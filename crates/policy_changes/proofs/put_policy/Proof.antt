@@ -1,9 +1,11 @@
--- `policy_changes::put_policy` meets its contract. Assumes nothing.
+-- The slot settled with the policy, then the bits reset that it touches.
 use mathlib.Core.Path.{_∙_}
 use mathlib.Core.Option.{some}
 use borrow.Author.Needs.{needs}
 use Rattle.formed.proofs.Reading.{formed-whole}
-use Rattle.policy_changes.proofs.PolicyLaws.{counts-small, settled-formed, settled-standing, settled-stored, put-done}
+use Rattle.policy_entries.proofs.SaidPolicy.{counts-small}
+use Rattle.policy_entries.proofs.SettledPolicy.{settled-formed, settled-standing, settled-stored}
+use Rattle.policy_changes.proofs.PolicyChanged.{policy-comes}
 use Rattle.policy_changes.proofs.put_policy.Statement.{statement}
 use Rattle.policy_changes.proofs.put_policy.Tie as tie
 
@@ -38,7 +40,7 @@ returns c =
     let f = r .before .before .before .before in
     let w = f .before .before .before .before in
     let p = w .before .before .pre in
-    put-done _ (p .0) _ (p .1) (p .2 .valid) (w .slot-words .ensures) (f .settle .ensures) _ (r .reset .ensures) (p .2 .words .direction)
+    policy-comes _ (p .0) _ (p .1) (p .2 .valid) (w .slot-words .ensures) (f .settle .ensures) _ (r .reset .ensures) (p .2 .words .direction)
 
 pub put-policy-spec : {M : Type 1} → statement M
 put-policy-spec =

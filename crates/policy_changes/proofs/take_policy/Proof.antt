@@ -1,11 +1,13 @@
--- `policy_changes::take_policy` meets its contract. Assumes nothing.
+-- The slot settled free, then the bits reset that the policy touched.
 use mathlib.Core.Path.{refl, _∙_}
 use mathlib.Core.Option.{none}
 use native.Mathlib.Omega.{arith}
 use borrow.Author.Needs.{needs}
 use Rattle.bitrow.specs.Bit.{bitAt}
 use Rattle.formed.proofs.Reading.{formed-whole}
-use Rattle.policy_changes.proofs.PolicyLaws.{no-words, settled-formed, settled-standing, settled-stored, take-done}
+use Rattle.policy_entries.proofs.SaidPolicy.{no-words}
+use Rattle.policy_entries.proofs.SettledPolicy.{settled-formed, settled-standing, settled-stored}
+use Rattle.policy_changes.proofs.PolicyChanged.{policy-goes}
 use Rattle.policy_changes.proofs.take_policy.Statement.{statement}
 use Rattle.policy_changes.proofs.take_policy.Tie as tie
 
@@ -42,7 +44,7 @@ returns c =
     let f = r .before .before .before .before in
     let s = f .before .before in
     let p = s .before .before .before .before .before .before .pre in
-    take-done _ (p .0) _ (p .1) (p .2) no-words (f .settle .ensures) (bitAt (s .selected-row .result)) (r .reset .ensures) (s .selected-row .ensures)
+    policy-goes _ (p .0) _ (p .1) (p .2) no-words (f .settle .ensures) (bitAt (s .selected-row .result)) (r .reset .ensures) (s .selected-row .ensures)
 
 pub take-policy-spec : {M : Type 1} → statement M
 take-policy-spec =

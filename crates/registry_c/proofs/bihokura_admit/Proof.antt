@@ -1,7 +1,8 @@
+-- By what `admit` promises: the slot, of either table, is its own number.
 use borrow.Author.Needs.{needs}
 use mathlib.Core.Path.{sym, ap, _∙_}
-use Rattle.registry.specs.Answers.{admittedAnswer}
-use Rattle.registry_c.specs.Codes.{codeOf}
+use Rattle.answers.specs.Answers.{admittedAnswer}
+use Rattle.codes.specs.Codes.{codeOf}
 use Rattle.registry_c.proofs.CodeLaws.{coded}
 use Rattle.registry_c.proofs.bihokura_admit.Statement.{statement}
 use Rattle.registry_c.proofs.bihokura_admit.Tie as tie

@@ -1,7 +1,8 @@
+-- By what `findings` promises: how many were put is the length of what stands in the list.
 use borrow.Author.Needs.{needs}
 use mathlib.Core.Path.{sym, ap, _∙_}
-use Rattle.registry.specs.Answers.{putAnswer}
-use Rattle.registry_c.specs.Codes.{codeOf}
+use Rattle.answers.specs.Answers.{putAnswer}
+use Rattle.codes.specs.Codes.{codeOf}
 use Rattle.registry_c.proofs.CodeLaws.{coded, put-coded}
 use Rattle.registry_c.proofs.bihokura_findings.Statement.{statement}
 use Rattle.registry_c.proofs.bihokura_findings.Tie as tie

@@ -1,7 +1,8 @@
+-- By what `next_finding` promises: the finding's number, or 0 where there is none.
 use borrow.Author.Needs.{needs}
 use mathlib.Core.Path.{sym, ap, _∙_}
-use Rattle.registry.specs.Answers.{nextAnswer}
-use Rattle.registry_c.specs.Codes.{codeOf}
+use Rattle.answers.specs.Answers.{nextAnswer}
+use Rattle.codes.specs.Codes.{codeOf}
 use Rattle.registry_c.proofs.CodeLaws.{coded}
 use Rattle.registry_c.proofs.bihokura_next_finding.Statement.{statement}
 use Rattle.registry_c.proofs.bihokura_next_finding.Tie as tie

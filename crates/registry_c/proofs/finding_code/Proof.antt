@@ -1,3 +1,4 @@
+-- Each of the three numbers is below 2^16, so no place meets another.
 use borrow.Author.Needs.{needs}
 use Rattle.model.specs.Findings.{findingCode}
 use Rattle.registry_c.proofs.finding_code.Statement.{statement}

@@ -1,4 +1,4 @@
--- `step` meets its contract. Assumes nothing.
+-- By the state: the promise of its part, and that this part leaves less ahead.
 use mathlib.Core.Path.{subst}
 use Prim.Native.Nat.{_<_}
 use native.Mathlib.Omega.{arith}
@@ -15,13 +15,13 @@ returns : tie.Need-returns
 returns c = let g = subst (λ s. startedIn s < 512) (c .before .before .before .before .before .before .before .before .before .before .before .state .given .1) (c .before .before .before .before .before .before .before .before .before .before .before .before .before .before .before .before .before .pre .1) in let k = c .before .before .before .before .before .before .before .before .before .before .known-told .given in step-take _ _ _ _ _ _ (c .before .before .before .before .before .before .before .before .before .before .before .state .given .1) g (omega (arith, k)) (c .before .before .before .before .before .before .take .ensures .0) (c .before .before .before .before .before .before .take .ensures .1)
 
 returns-2 : tie.Need-returns-2
-returns-2 c = step-count _ _ _ _ _ _ (c .before .before .before .before .before .enum-told .given .1) (c .before .before .count .ensures)
+returns-2 c = step-count _ _ _ _ _ _ (c .before .before .before .before .before .enum-told .given .1) (c .before .before .tell-counts .ensures)
 
 returns-3 : tie.Need-returns-3
 returns-3 c =
     let s = c .before .before .before .before .before .before in
     let k = c .before .before .before .before .before .known-told2 .given in
-    step-list _ _ _ _ _ _ (s .state2 .given .1) (search needs) (omega (arith, k)) (omega (arith, k)) (omega (arith, k)) (c .before .before .list .ensures)
+    step-list _ _ _ _ _ _ (s .state2 .given .1) (search needs) (omega (arith, k)) (omega (arith, k)) (omega (arith, k)) (c .before .before .tell-findings .ensures)
 
 returns-4 : tie.Need-returns-4
 returns-4 c = step-none _ _ _ _ _ _ (c .enum-told2 .given .1)

@@ -1,4 +1,4 @@
--- `sets::fill` meets its contract. Assumes nothing.
+-- The rows before `next`, and the known one, are there; the others have nothing.
 use borrow.Author.Needs.{needs}
 use Prim.Native.Nat.{_-_}
 use Rattle.bitrow.specs.Bit.{bitAt}

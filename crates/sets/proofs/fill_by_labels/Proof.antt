@@ -1,4 +1,4 @@
--- `sets::fill_by_labels` meets its contract. Assumes nothing.
+-- The table and its rows, then one fill for each of the two parts.
 use Rattle.sets.proofs.Candidates.{selects-within, allows-within, selected-known, allowed-known, selected-rows, allowed-rows, empty-rows}
 use Rattle.sets.proofs.fill_by_labels.Statement.{statement}
 use Rattle.sets.proofs.fill_by_labels.Tie as tie

@@ -1,4 +1,4 @@
--- `sets::fill_sets` meets its contract. Assumes nothing.
+-- Where no policy stands, rows that have nothing are the sets.
 use borrow.Author.Needs.{needs}
 use mathlib.Core.Path.{sym, ap, _∙_}
 use mathlib.Core.Bool.{not}

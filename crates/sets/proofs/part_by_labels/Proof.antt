@@ -1,4 +1,4 @@
--- `sets::part_by_labels` meets its contract. Assumes nothing.
+-- A free slot has the empty set; else what `matching` gives.
 use borrow.Author.Needs.{needs}
 use native.Mathlib.Omega.{arith}
 use mathlib.Core.Path.{_∙_}

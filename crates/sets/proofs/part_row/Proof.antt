@@ -1,4 +1,4 @@
--- `sets::part_row` meets its contract. Assumes nothing.
+-- A free slot has the empty set; else the trial.
 use borrow.Author.Needs.{needs}
 use native.Mathlib.Omega.{arith}
 use mathlib.Core.Path.{_∙_}

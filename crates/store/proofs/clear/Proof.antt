@@ -1,4 +1,4 @@
--- `store::clear` meets its contract. Assumes nothing.
+-- The first i words are 0.
 use mathlib.Core.Path.{_≡_, refl, _∙_}
 use Prim.Native.Nat.{_≤_, _-_}
 use native.Mathlib.Omega.{arith}

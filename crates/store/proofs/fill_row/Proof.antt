@@ -1,4 +1,4 @@
--- `store::fill_row` meets its contract. Assumes nothing.
+-- The four stores are those of `fourWords`, as written; only the bounds are asked.
 use native.Mathlib.Omega.{arith}
 use lib.ListN.{length-set}
 use borrow.Author.Needs.{needs}

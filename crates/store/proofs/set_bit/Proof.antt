@@ -1,4 +1,4 @@
--- `store::set_bit` meets its contract. Assumes nothing.
+-- One word is stored: what `with_bit` gives of it.
 use mathlib.Core.Path.{ap}
 use lib.ListN.{set}
 use Rattle.store.specs.Memory.{bitWord, bitSet}

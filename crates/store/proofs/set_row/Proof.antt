@@ -1,4 +1,4 @@
--- `store::set_row` meets its contract. Assumes nothing.
+-- A row filled from the start of a part that was lent is filled in the whole memory.
 use native.Mathlib.Omega.{arith}
 use Rattle.store.specs.Layout.{rowStart}
 use Rattle.store.specs.Memory.{rowSet, fourWords}

@@ -1,4 +1,4 @@
--- `store::set_slot` meets its contract. Assumes nothing.
+-- After k turns the first k of the words are stored.
 use mathlib.Core.Path.{_≡_, refl, ap, _∙_}
 use Prim.Native.Nat.{_+_, _≤_, _-_}
 use native.Mathlib.Omega.{arith}

@@ -1,4 +1,4 @@
--- `store::with_bit` meets its contract. Assumes nothing.
+-- Two cases, each a law of one bit of a word.
 use Rattle.store.proofs.Bits.{bit-put, bit-cut}
 use borrow.Author.Needs.{needs}
 use Rattle.store.proofs.with_bit.Statement.{statement}

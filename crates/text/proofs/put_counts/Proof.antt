@@ -1,4 +1,4 @@
--- `put_counts` meets its contract. Assumes nothing.
+-- Three named numbers, one behind the other, are the line.
 use native.Mathlib.Omega.{arith}
 use borrow.Author.Needs.{needs}
 use Rattle.text.specs.Lines.{countsLine}

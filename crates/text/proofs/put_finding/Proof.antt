@@ -1,12 +1,13 @@
--- `put_finding` meets its contract: a kind has at most ten digits, and each number after it at most five. Assumes nothing.
+-- A kind has at most ten digits, and each number after it at most five.
 use Prim.Native.Nat.{_+_, _/_, _%_, _≤_}
 use native.Mathlib.Omega.{arith}
 use lib.ListN.{length, length-append}
 use borrow.Author.Needs.{needs}
-use Rattle.text.specs.Text.{decimal, threeNumbers}
+use Rattle.digits.specs.Decimal.{decimal}
+use Rattle.text.specs.Text.{threeNumbers}
 use Rattle.text.specs.Lines.{codeLine}
 use Rattle.buffer.proofs.BufferLaws.{puts-then}
-use Rattle.text.proofs.TextLaws.{decimal-short}
+use Rattle.digits.proofs.DecimalLaws.{decimal-short}
 use Rattle.text.proofs.put_finding.Statement.{statement}
 use Rattle.text.proofs.put_finding.Tie as tie
 

@@ -1,4 +1,4 @@
--- `put_findings` meets its contract: each turn puts the line of one more finding. Assumes nothing.
+-- Each turn puts the line of one more finding.
 use mathlib.Core.Path.{_≡_, ap}
 use Prim.Native.Nat.{_*_, _≤_, _-_}
 use native.Mathlib.Omega.{arith}

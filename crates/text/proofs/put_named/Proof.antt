@@ -1,9 +1,9 @@
--- `put_named` meets its contract. Assumes nothing.
+-- A word and a space, and behind them a number of at most 20 digits.
 use native.Mathlib.Omega.{arith}
 use borrow.Author.Needs.{needs}
 use Rattle.text.specs.Text.{named}
 use Rattle.buffer.proofs.BufferLaws.{puts-then}
-use Rattle.text.proofs.TextLaws.{decimal-short}
+use Rattle.digits.proofs.DecimalLaws.{decimal-short}
 use Rattle.text.proofs.put_named.Statement.{statement}
 use Rattle.text.proofs.put_named.Tie as tie
 

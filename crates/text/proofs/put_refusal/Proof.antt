@@ -1,9 +1,9 @@
--- `put_refusal` meets its contract. Assumes nothing.
+-- A named number and, behind it, the refusal are the line.
 use native.Mathlib.Omega.{arith}
 use borrow.Author.Needs.{needs}
 use Rattle.text.specs.Lines.{refusedLine}
 use Rattle.buffer.proofs.BufferLaws.{puts-then}
-use Rattle.text.proofs.TextLaws.{decimal-short}
+use Rattle.digits.proofs.DecimalLaws.{decimal-short}
 use Rattle.text.proofs.put_refusal.Statement.{statement}
 use Rattle.text.proofs.put_refusal.Tie as tie
 

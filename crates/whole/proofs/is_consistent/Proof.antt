@@ -1,9 +1,10 @@
--- `whole::is_consistent` meets its contract. Assumes nothing.
+-- The answer is that of the rows from x on.
 use borrow.Author.Needs.{needs}
 use native.Mathlib.Omega.{arith}
 use mathlib.Core.Path.{_≡_, sym, _∙_}
 use Prim.Native.Nat.{_-_}
 use Rattle.model.specs.Registry.{consistent}
+use Rattle.store.specs.Layout.{rowCount}
 use Rattle.formed.specs.Registry.{registryIn}
 use Rattle.formed.specs.Tests.{between}
 use Rattle.formed.proofs.Reading.{formed-whole}
@@ -14,10 +15,10 @@ use Rattle.whole.proofs.is_consistent.Statement.{statement}
 use Rattle.whole.proofs.is_consistent.Tie as tie
 
 abbrev Inv-loop : tie.InvT-loop
-Inv-loop memory selected allowed outs backs gathered x₀ x = consistent (registryIn memory) ≡ between (ruledRow memory) x 512
+Inv-loop memory selected allowed outs backs gathered x₀ x = consistent (registryIn memory) ≡ between (ruledRow memory) x rowCount
 
 abbrev μ-loop : tie.MeasureT-loop
-μ-loop memory selected allowed outs backs gathered x₀ x = 512 - x
+μ-loop memory selected allowed outs backs gathered x₀ x = rowCount - x
 
 containers-standing-requires : tie.Need-containers-standing-requires Inv-loop μ-loop
 containers-standing-requires c κs = formed-whole _ (c .before .pre)

@@ -1,4 +1,4 @@
--- `whole::row_of_bits` meets its contract. Assumes nothing.
+-- One case for each of the three tables.
 use borrow.Author.Needs.{needs}
 use native.Mathlib.Omega.{arith}
 use mathlib.Core.Path.{_∙_, sym}

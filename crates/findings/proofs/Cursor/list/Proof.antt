@@ -1,23 +1,23 @@
--- `Cursor::list` meets its contract: each turn puts the findings of one row, or goes on to the next kind. Assumes nothing.
+-- Each turn puts the findings of one row, or goes on to the next kind.
 use Prim.Native.Nat.{_+_, _-_, _*_, _≤_, _<_}
 use native.Mathlib.Omega.{arith}
 use lib.ListN.{length}
 use borrow.Author.Needs.{needs}
 use Rattle.formed.proofs.Reading.{formed-whole}
-use Rattle.findings.specs.Steps.{placeOf}
-use Rattle.findings.proofs.Standing.{both-less, not-both-less}
-use Rattle.findings.proofs.Walk.{Sized}
-use Rattle.findings.proofs.Listed.{Listed, listed-none, listed-size, listed-room, listed-reached, listed-row, listed-kind, listed-puts, listed-still, listed-small, listed-moved}
+use Rattle.findings.specs.Steps.{cursorPlace}
+use Rattle.findings.proofs.LoopTests.{both-less, not-both-less}
+use Rattle.findings.proofs.Walk.{SmallPlace}
+use Rattle.findings.proofs.PutSoFar.{PutSoFar, listed-none, listed-size, listed-room, listed-reached, listed-row, listed-kind, listed-puts, listed-still, listed-small, listed-moved}
 use Rattle.findings.proofs.Cursor.list.Statement.{statement}
 use Rattle.findings.proofs.Cursor.list.Tie as tie
 
 abbrev Inv-loop : tie.InvT-loop
-Inv-loop self memory list₀ containers policies kind₀ a₀ from₀ at₀ list kind a from at = Listed memory (placeOf self) list₀ list kind a from at
+Inv-loop self memory list₀ containers policies kind₀ a₀ from₀ at₀ list kind a from at = PutSoFar memory (cursorPlace self) list₀ list kind a from at
 
 abbrev μ-loop : tie.MeasureT-loop
 μ-loop self memory list₀ containers policies kind₀ a₀ from₀ at₀ list kind a from at = (8 - kind) * 65537 + (65536 - a)
 
-sized : (c : tie.Start Inv-loop μ-loop) → Sized (placeOf (c .args .self))
+sized : (c : tie.Start Inv-loop μ-loop) → SmallPlace (cursorPlace (c .args .self))
 sized c = record { smallKind = search needs; smallA = search needs; smallB = search needs }
 
 -- where the loop is left, and its test
@@ -43,8 +43,8 @@ policies-standing-requires c κs = formed-whole _ (c .before .before .before .pr
 loop-holds : tie.Need-loop-holds Inv-loop μ-loop
 loop-holds c = listed-none _ (sized (c .before .before .before .before .before .before .before))
 
-row-of-requires : tie.Need-row-of-requires Inv-loop μ-loop
-row-of-requires c κs =
+finding-row-requires : tie.Need-finding-row-requires Inv-loop μ-loop
+finding-row-requires c κs =
     let p = c .before .before .before .before .before .before in
     (p .before .before .before .before .pre, p .before .containers-standing .ensures, p .policies-standing .ensures, small c .1)
 
@@ -65,7 +65,7 @@ loop-again c =
     let b = p .before in
     let r = b .before .before .before in
     let t = r .before in
-    listed-row _ (t .before .before .loop .inv) (small t .1) (room (t .before) .1) (r .row-of .ensures) (b .both .ensures) (b .before .at-least .ensures) (p .put-row .ensures)
+    listed-row _ (t .before .before .loop .inv) (small t .1) (room (t .before) .1) (r .finding-row .ensures) (b .both .ensures) (b .before .at-least .ensures) (p .put-row .ensures)
 
 add-kind : tie.Need-add-kind Inv-loop μ-loop
 add-kind c = omega (arith, room (c .before) .0)
@@ -113,7 +113,7 @@ list-spec =
     (λ c. search needs)
     (λ c. search needs)
     loop-holds
-    row-of-requires
+    finding-row-requires
     (λ c κs. search needs)
     (λ c κs. search needs)
     put-row-requires

@@ -1,12 +1,12 @@
--- `listing::put_bits` meets its contract: each turn puts the number of the lowest bit. Assumes nothing.
+-- Each turn puts the number of the lowest bit left.
 use Prim.Native.Nat.{_<_}
 use native.Mathlib.Omega.{arith}
 use lib.Count.{trailing-le}
 use lib.ListN.{length}
 use borrow.Author.Needs.{needs}
 use Rattle.bitrow.proofs.Words.{zeros-fit}
-use Rattle.findings.proofs.Standing.{both-less, not-both-less}
-use Rattle.findings.proofs.Putting.{PuttingWord, word-start, word-size, word-put, word-done}
+use Rattle.findings.proofs.LoopTests.{both-less, not-both-less}
+use Rattle.findings.proofs.Putting.{PuttingWord, word-start, word-length, word-put, word-done}
 use Rattle.findings.proofs.listing.put_bits.Statement.{statement}
 use Rattle.findings.proofs.listing.put_bits.Tie as tie
 
@@ -33,7 +33,7 @@ loop-again : tie.Need-loop-again Inv-loop μ-loop
 loop-again c = let h = room (c .before) in word-put (c .before .before .loop .inv) (h .0) (h .1) (c .without-lowest .ensures)
 
 same-length : tie.Need-same-length Inv-loop μ-loop
-same-length c = let h = word-size (c .before .loop .inv) in search needs
+same-length c = let h = word-length (c .before .loop .inv) in search needs
 
 returns : tie.Need-returns Inv-loop μ-loop
 returns c = let l = c .before .loop in word-done (l .inv) (not-both-less 0 (l .rest) (l .at) (length (l .list)) (c .loop-test .left))

@@ -1,4 +1,4 @@
--- `listing::put_row` meets its contract: each turn puts the findings of one word. Assumes nothing.
+-- Each turn puts the findings of one word.
 use Prim.Native.Nat.{_-_}
 use native.Mathlib.Omega.{arith}
 use borrow.Author.Needs.{needs}

@@ -1,4 +1,4 @@
--- `reach::sides::exchanged` meets its contract. Assumes nothing.
+-- The two sides change places; only what is chosen is worked out again.
 use borrow.Author.Needs.{needs}
 use mathlib.Core.Path.{refl}
 use Rattle.reach.proofs.sides.exchanged.Statement.{statement}

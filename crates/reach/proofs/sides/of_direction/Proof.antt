@@ -1,4 +1,4 @@
--- `reach::sides::of_direction` meets its contract. Assumes nothing.
+-- Two words of 64 slots each, by their direction words, are the set of that direction.
 use borrow.Author.Needs.{needs}
 use native.Mathlib.Omega.{arith}
 use Rattle.formed.proofs.Reading.{formed-whole}
@@ -16,4 +16,4 @@ returns : tie.Need-returns
 returns c = let p = c .before .before .before .pre in direction-row _ (p .0) _ (p .1) (p .2) _ _ (c .before .slots-with .ensures) (c .slots-with2 .ensures)
 
 pub of-direction-spec : {M : Type 1} → statement M
-of-direction-spec = tie.close (tie.spec slots-with-requires (λ c. search needs) slots-with-requires-2 returns)
+of-direction-spec = tie.close (tie.spec slots-with-requires (λ c. search needs) (λ c. search needs) slots-with-requires-2 returns)

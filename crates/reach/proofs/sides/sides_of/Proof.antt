@@ -1,4 +1,4 @@
--- `reach::sides::sides_of` meets its contract. Assumes nothing.
+-- The other direction's number is 3 less this one's.
 use borrow.Author.Needs.{needs}
 use mathlib.Core.Path.{ap, _∙_}
 use Rattle.reach.specs.Sides.{directionSet}

@@ -1,0 +1,3 @@
+-- The laws of open and admit.
+pub mod BlockLaws
+pub mod AdmissionLaws

@@ -1,0 +1,2 @@
+-- What the contracts of `admission` cite.
+pub mod Admission

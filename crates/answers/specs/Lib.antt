@@ -1,0 +1,2 @@
+-- What the contracts of the calls cite of their answers.
+pub mod Answers

@@ -1,0 +1,2 @@
+-- What the contracts of `call_tests` cite.
+pub mod Tests

@@ -1,0 +1,2 @@
+-- What the contracts of `closing` cite.
+pub mod Closing

@@ -1,0 +1,1 @@
+// The numbers of the C interface: definitions and theorems alone.

@@ -1,0 +1,2 @@
+-- What the contracts of `container_bits` cite.
+pub mod ContainerBits

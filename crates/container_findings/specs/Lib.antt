@@ -1,0 +1,2 @@
+-- What the contracts of `container_findings` cite.
+pub mod Rows

@@ -1,0 +1,1 @@
+-- What the contracts of `counts` cite stands in `model` and `formed`.

@@ -1,0 +1,1 @@
+-- What the contracts of `entry_tests` cite stands in `formed`.

@@ -1,0 +1,3 @@
+-- What the contracts of `intake` cite.
+pub mod Told
+pub mod Blocks

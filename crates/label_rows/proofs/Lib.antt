@@ -1,0 +1,2 @@
+-- The laws behind the proofs of `label_rows`.
+pub mod RowLaws

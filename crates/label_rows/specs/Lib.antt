@@ -1,0 +1,3 @@
+-- What the contracts of `label_rows` cite.
+pub mod Rows
+pub mod LabelRows

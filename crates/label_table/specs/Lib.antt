@@ -1,0 +1,2 @@
+-- What the contracts of `label_table` cite.
+pub mod LabelTable

@@ -1,0 +1,2 @@
+-- The laws of layouts.
+pub mod Layouts

@@ -1,0 +1,14 @@
+-- The two runs are a list with nothing behind the second.
+use mathlib.Core.Path.{sym, _∙_}
+use borrow.Author.Needs.{needs}
+use Rattle.block.proofs.Checks.{orElse-same, orElse-nowhere}
+use Rattle.layouts.proofs.order_faults.Statement.{statement}
+use Rattle.layouts.proofs.order_faults.Tie as tie
+
+returns : tie.Need-returns
+returns c =
+    orElse-same _ _ _ _ _ (c .or-else .ensures) (c .before .before .order-fault .ensures) (c .before .order-fault2 .ensures ∙ sym (orElse-nowhere _))
+
+pub order-faults-spec : {M : Type 1} → statement M
+order-faults-spec =
+    tie.close (tie.spec (λ c κs. search needs) (λ c κs. search needs) (λ c κs. search needs) returns)

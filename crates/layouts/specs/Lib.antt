@@ -1,0 +1,2 @@
+-- What the contracts of `layouts` cite.
+pub mod Steps

@@ -1,0 +1,2 @@
+-- The answers of the list, on the model and on memory.
+pub mod Listed

@@ -1,0 +1,1 @@
+// One list of calls, worked out: definitions and theorems alone.

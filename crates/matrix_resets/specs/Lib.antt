@@ -1,0 +1,2 @@
+-- What the contracts of `matrix_resets` cite.
+pub mod Resets

@@ -1,0 +1,45 @@
+-- The bits of the matrix that a policy's coming or going sets by the rules, row by row.
+use mathlib.Core.Path.{_≡_}
+use mathlib.Core.Bool.{Bool, _&&_, cond}
+use mathlib.Core.List.{List}
+use Prim.Native.Nat.{ℕ}
+use Rattle.block.specs.Entry.{Policy}
+use Rattle.block.specs.Written.{directionNumber}
+use Rattle.model.specs.Table.{on, at}
+use Rattle.model.specs.Rules.{selects}
+use Rattle.model.specs.Model.{Model, matrixBit}
+use Rattle.model.specs.Registry.{Registry, setWhere, touched}
+use Rattle.store.specs.Contents.{Contents, Holds}
+use Rattle.store.specs.Memory.{withRow}
+use Rattle.formed.specs.Registry.{modelIn, registryIn, image}
+
+-- the named bits of the matrix by the rules
+unfoldable pub resetWhere : Registry → (ℕ → ℕ → Bool) → Registry
+resetWhere r named = record {
+  model = r .model;
+  bits = record {
+    matrix = setWhere named (matrixBit (r .model)) (r .bits .matrix);
+    selected = r .bits .selected;
+    allowed = r .bits .allowed;
+  };
+}
+
+-- the pairs of one of s and one of t
+unfoldable pub product : (ℕ → Bool) → (ℕ → Bool) → ℕ → ℕ → Bool
+product s t a b = s a && t b
+
+-- a row with the bits of the mask made the rule's
+unfoldable pub masked : (ℕ → Bool) → (ℕ → Bool) → (ℕ → Bool) → ℕ → Bool
+masked mask rule old y = cond (mask y) (rule y) (old y)
+
+-- m′ is m but for row a, whose bits of the mask are made the rule's
+pub record RowReset (m m′ : List ℕ) (a : ℕ) (mask rule : ℕ → Bool) : Type 0 where
+  pub holds : (c : Contents) → Holds m c → Holds m′ (withRow c a (masked mask rule (c .bits a)))
+
+-- the containers that p selects
+unfoldable pub selection : Model → Policy → ℕ → Bool
+selection m p c = on (selects p) (at (m .containers) c)
+
+-- the bits of the matrix that a policy of direction d touches, which selects s, are by the rules
+pub record ResetsFor (m : List ℕ) (d : ℕ) (s : ℕ → Bool) (m′ : List ℕ) : Type 0 where
+  pub says : (p : Policy) → d ≡ directionNumber (p .direction) → s ≡ selection (modelIn m) p → m′ ≡ image (resetWhere (registryIn m) (touched (modelIn m) p))

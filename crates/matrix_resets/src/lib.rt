@@ -1,0 +1,72 @@
+// The bits of the matrix that a policy has to do with, set by the rules from the entries.
+ghost use mathlib.Core.Path.{_≡_};
+ghost use mathlib.Core.Bool.{true};
+ghost use Prim.Native.Nat.{_<_};
+ghost use Rattle.bitrow.specs.Bit.{bitAt};
+ghost use Rattle.model.specs.Table.{stands};
+ghost use Rattle.store.specs.Layout.{Whole};
+ghost use Rattle.formed.specs.Registry.{modelIn, registryIn, image, wellFormed};
+ghost use Rattle.policy_entries.specs.PolicyEntry.{SetsStored};
+ghost use Rattle.matrix_resets.specs.Resets.{RowReset, product, resetWhere, ResetsFor};
+
+// The bits of row a that are in the columns, set to those of a row by the rules.
+fn reset_row(memory: &mut [u64], a: usize, columns: [u64; 4], ruled: [u64; 4])
+    requires { ⌜ Whole (now memory) × (a < 256) ⌝ }
+    ensures { λ u. ⌜ RowReset (now (memory .entry)) (now (memory .exit)) a (bitAt columns) (bitAt ruled) ⌝ }
+{
+    let old = store::row_at(memory, a);
+    let row = bitrow::either(bitrow::except(old, columns), bitrow::both(ruled, columns));
+    store::set_row(memory, a, row);
+}
+
+// The bits of the matrix in these rows and columns, set by the rules from the entries. Policy q's sets are taken as they are stored.
+fn reset_rows(memory: &mut [u64], q: usize, rows: [u64; 4], columns: [u64; 4], standing: [u64; 4])
+    requires { ⌜ (wellFormed (now memory) ≡ true) × (bitAt standing ≡ stands (modelIn (now memory) .containers)) ⌝ }
+    requires { ⌜ (q < 128) × SetsStored (now memory) q ⌝ }
+    ensures { λ u. ⌜ now (memory .exit) ≡ image (resetWhere (registryIn (now (memory .entry))) (product (bitAt rows) (bitAt columns))) ⌝ }
+{
+    let mut selected = [[0u64; 4]; 128];
+    let mut allowed = [[0u64; 4]; 128];
+    let selects = store::row_at(memory, store::CONTAINER_SLOTS + 2 * q);
+    let allows = store::row_at(memory, store::CONTAINER_SLOTS + 2 * q + 1);
+    selected[q] = selects;
+    allowed[q] = allows;
+    let mut outs = [[0u64; 4]; 256];
+    let mut backs = [[0u64; 4]; 256];
+    let gathered = matrix_rows::gather(
+        memory,
+        standing,
+        q,
+        rows,
+        &mut selected,
+        &mut allowed,
+        &mut outs,
+        &mut backs,
+    );
+    let mut a = 0;
+    while a < 256 {
+        let row = a;
+        a += 1;
+        if bitrow::has(rows, row) {
+            let ruled = matrix_rows::line_from(row, gathered, &outs, &backs);
+            reset_row(memory, row, columns, ruled);
+        }
+    }
+}
+
+// The bits that a policy of this direction, which selects these containers, has to do with: set by the rules from the entries. The
+// sets stored for slot q are by them already.
+pub fn reset(memory: &mut [u64], q: usize, direction: u64, selected: [u64; 4], standing: [u64; 4])
+    requires { ⌜ (wellFormed (now memory) ≡ true) × (bitAt standing ≡ stands (modelIn (now memory) .containers)) ⌝ }
+    requires { ⌜ (q < 128) × SetsStored (now memory) q ⌝ }
+    ensures { λ u. ⌜ ResetsFor (now (memory .entry)) direction (bitAt selected) (now (memory .exit)) ⌝ }
+{
+    if bitrow::is_empty(selected) {
+        return;
+    }
+    if direction == 2 {
+        reset_rows(memory, q, selected, standing, standing);
+        return;
+    }
+    reset_rows(memory, q, standing, selected, standing);
+}

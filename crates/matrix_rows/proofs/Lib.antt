@@ -1,0 +1,2 @@
+-- The laws of rows gathered policy by policy.
+pub mod LineLaws

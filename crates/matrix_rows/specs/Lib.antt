@@ -1,0 +1,2 @@
+-- What the contracts of `matrix_rows` cite.
+pub mod Lines

@@ -1,0 +1,1 @@
+-- What the contracts of `memory_tests` cite stands in `formed`.

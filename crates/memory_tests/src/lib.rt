@@ -1,0 +1,89 @@
+// The test of the rows, and of a whole memory: whether it is well formed.
+ghost use mathlib.Core.Path.{_≡_};
+ghost use Prim.Native.Nat.{_<_};
+ghost use Rattle.bitrow.specs.Bit.{bitAt};
+ghost use Rattle.store.specs.Layout.{rowCount, Whole};
+ghost use Rattle.formed.specs.Registry.{wellFormed};
+ghost use Rattle.formed.specs.Tests.{rowOk, matrixOk, setsOk};
+
+// Row r has only bits of standing containers, and none where the first word of its owner's slot is zero.
+fn row_ok(memory: &[u64], r: usize, owner: u64, standing: [u64; 4]) -> bool
+    requires { ⌜ Whole (now memory) × (r < rowCount) ⌝ }
+    ensures { λ t. ⌜ t ≡ rowOk (now (memory .entry)) (bitAt standing) owner r ⌝ }
+{
+    let row = store::row_at(memory, r);
+    if owner == 0 {
+        return bitrow::is_empty(row);
+    }
+    bitrow::within(row, standing)
+}
+
+fn matrix_ok(memory: &[u64], standing: [u64; 4]) -> bool
+    requires { ⌜ Whole (now memory) ⌝ }
+    ensures { λ r. ⌜ r ≡ matrixOk (now (memory .entry)) (bitAt standing) ⌝ }
+{
+    let mut a = 0;
+    while a < store::CONTAINER_SLOTS {
+        if !row_ok(
+            memory,
+            a,
+            memory[store::CONTAINERS + store::CONTAINER_WORDS * a],
+            standing,
+        ) {
+            return false;
+        }
+        a += 1;
+    }
+    true
+}
+
+fn sets_ok(memory: &[u64], standing: [u64; 4]) -> bool
+    requires { ⌜ Whole (now memory) ⌝ }
+    ensures { λ r. ⌜ r ≡ setsOk (now (memory .entry)) (bitAt standing) ⌝ }
+{
+    let mut q = 0;
+    while q < store::POLICY_SLOTS {
+        let owner = memory[store::POLICIES + store::POLICY_WORDS * q];
+        if !row_ok(
+            memory,
+            store::SELECTED_ROWS + store::SET_STEP * q,
+            owner,
+            standing,
+        ) {
+            return false;
+        }
+        if !row_ok(
+            memory,
+            store::ALLOWED_ROWS + store::SET_STEP * q,
+            owner,
+            standing,
+        ) {
+            return false;
+        }
+        q += 1;
+    }
+    true
+}
+
+// Whether a memory is well formed: the test of refusals 1 and 2.
+pub fn well_formed(memory: &[u64]) -> bool
+    ensures { λ r. ⌜ r ≡ wellFormed (now (memory .entry)) ⌝ }
+{
+    if memory.len() != store::WORDS {
+        return false;
+    }
+    if !entry_tests::settings_ok(memory) {
+        return false;
+    }
+    if !entry_tests::containers_ok(memory) {
+        return false;
+    }
+    if !entry_tests::policies_ok(memory) {
+        return false;
+    }
+    let standing = formed::containers_standing(memory);
+    if !matrix_ok(memory, standing) {
+        return false;
+    }
+    sets_ok(memory, standing)
+}

@@ -1,0 +1,3 @@
+-- What the contracts of `pieces` cite.
+pub mod Left
+pub mod Pieces

@@ -1,2 +1,0 @@
--- What the contracts of `policy_changes` cite.
-pub mod PolicyChange

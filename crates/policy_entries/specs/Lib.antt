@@ -1,0 +1,2 @@
+-- What the contracts of `policy_entries` cite.
+pub mod PolicyEntry

@@ -1,0 +1,2 @@
+-- The laws of the queries.
+pub mod QueryLaws

@@ -1,0 +1,2 @@
+-- What the steps of the readers answer.
+pub mod Settings

@@ -1,4 +1,0 @@
--- What the contracts of `registry` cite.
-pub mod Answers
-pub mod Tests
-pub mod Admission

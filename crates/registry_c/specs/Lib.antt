@@ -1,2 +1,0 @@
--- What the contracts of `registry_c` cite.
-pub mod Codes

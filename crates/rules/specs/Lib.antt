@@ -1,0 +1,2 @@
+-- What the contracts of `rules` cite.
+pub mod Lets

@@ -1,0 +1,2 @@
+-- The laws of the walks.
+pub mod WalkLaws
