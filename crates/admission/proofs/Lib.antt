@@ -1,3 +1,2 @@
 -- The laws of open and admit.
 pub mod BlockLaws
-pub mod AdmissionLaws

@@ -1,23 +1,14 @@
 // The calls that take a block: open, and the admission of a container or a policy.
 ghost use mathlib.Core.Path.{_≡_};
-ghost use mathlib.Core.Bool.{true};
 ghost use Rattle.model.specs.Calls.{openWith, change, admit};
-ghost use Rattle.formed.specs.Registry.{modelIn, wellFormed};
-ghost use Rattle.formed.specs.Labels.{unpacked};
 ghost use Rattle.steps.specs.MemoryStep.{memoryStep};
-ghost use Rattle.container_changes.specs.OneContainer.{SaysContainer};
-ghost use Rattle.policy_entries.specs.PolicyEntry.{policyFrom, SaysPolicy};
 ghost use Rattle.answers.specs.Answers.{outcomeAnswer, admittedAnswer};
-ghost use Rattle.admission.specs.Admission.{containerAdmitted, policyAdmitted};
 use answers::Admitted;
 use answers::Outcome;
-use block::Labels;
 use block::Settings;
 use block::Sort;
 use block::Tested;
 use block::numbers;
-use entries::FreeContainer;
-use entries::FreePolicy;
 
 // A registry without entries, under the settings of the block. What the memory held before counts for nothing.
 pub fn open(memory: &mut [u64], block: &[u8]) -> Outcome
@@ -34,32 +25,6 @@ pub fn open(memory: &mut [u64], block: &[u8]) -> Outcome
     let settings = reading.settings;
     container_changes::start(memory, settings);
     Outcome::Done
-}
-
-// The container comes to the lowest free slot.
-fn admit_container(memory: &mut [u64], labels: Labels) -> Admitted
-    requires { ⌜ (wellFormed (now memory) ≡ true) × SaysContainer (modelIn (now memory) .settings) labels ⌝ }
-    ensures { λ r. ⌜ (now (memory .exit), admittedAnswer r) ≡ containerAdmitted (now (memory .entry)) (unpacked labels) ⌝ }
-{
-    let free = entries::free_container(memory);
-    let FreeContainer::At(slot) = free else {
-        return Admitted::Refused(numbers::TABLE_FULL);
-    };
-    container_changes::put_container(memory, slot, labels);
-    Admitted::Container(slot)
-}
-
-// The policy comes to the lowest free slot.
-fn admit_policy(memory: &mut [u64], direction: u64, select: Labels, allow: Labels) -> Admitted
-    requires { ⌜ (wellFormed (now memory) ≡ true) × SaysPolicy (modelIn (now memory) .settings) direction select allow ⌝ }
-    ensures { λ r. ⌜ (now (memory .exit), admittedAnswer r) ≡ policyAdmitted (now (memory .entry)) (policyFrom direction select allow) ⌝ }
-{
-    let free = entries::free_policy(memory);
-    let FreePolicy::At(slot) = free else {
-        return Admitted::Refused(numbers::TABLE_FULL);
-    };
-    policy_changes::put_policy(memory, slot, direction, select, allow);
-    Admitted::Policy(slot)
 }
 
 // The container or policy of the block comes to the lowest free slot of its table.
@@ -84,10 +49,10 @@ pub fn admit(memory: &mut [u64], block: &[u8]) -> Admitted
     let sort = entry.sort;
     let first = entry.first;
     match sort {
-        Sort::Container => admit_container(memory, first),
+        Sort::Container => free_slots::admit_container(memory, first),
         Sort::Policy => {
             let second = entry.second;
-            admit_policy(memory, entry.direction, first, second)
+            free_slots::admit_policy(memory, entry.direction, first, second)
         }
     }
 }

@@ -1,10 +1,9 @@
 // Sets of numbers below 256, as four words of bits: number i is bit i % 64 of word i / 64.
 ghost use mathlib.Core.Path.{_≡_};
-ghost use mathlib.Core.Bool.{not};
 ghost use Prim.Native.Nat.{_<_, _%_, _-_};
 ghost use lib.Count.{trailingZeros};
 ghost use Rattle.bitrow.specs.Bit.{bit, bitAt};
-ghost use Rattle.bitrow.specs.Set.{nothing, under, atLeast, insert, remove, meet, join, less, hasSome, part, equal, size, lowestFrom};
+ghost use Rattle.bitrow.specs.Set.{nothing, under, atLeast, insert, remove, meet, join, less};
 
 // What a search for a number of a set finds.
 pub enum Found {
@@ -123,49 +122,4 @@ pub fn except(a: [u64; 4], b: [u64; 4]) -> [u64; 4]
     ensures { λ r. ⌜ bitAt r ≡ less (bitAt a) (bitAt b) ⌝ }
 {
     [a[0] & !b[0], a[1] & !b[1], a[2] & !b[2], a[3] & !b[3]]
-}
-
-pub fn is_empty(row: [u64; 4]) -> bool
-    ensures { λ r. ⌜ r ≡ not (hasSome (bitAt row)) ⌝ }
-{
-    row[0] | row[1] | row[2] | row[3] == 0
-}
-
-// Whether all of a is in b.
-pub fn within(a: [u64; 4], b: [u64; 4]) -> bool
-    ensures { λ r. ⌜ r ≡ part (bitAt a) (bitAt b) ⌝ }
-{
-    is_empty(except(a, b))
-}
-
-pub fn same(a: [u64; 4], b: [u64; 4]) -> bool
-    ensures { λ r. ⌜ r ≡ equal (bitAt a) (bitAt b) ⌝ }
-{
-    (a[0] == b[0]) & (a[1] == b[1]) & (a[2] == b[2]) & (a[3] == b[3])
-}
-
-pub fn count(row: [u64; 4]) -> u32
-    ensures { λ r. ⌜ r ≡ size (bitAt row) 256 ⌝ }
-{
-    u64::count_ones(row[0])
-        + u64::count_ones(row[1])
-        + u64::count_ones(row[2])
-        + u64::count_ones(row[3])
-}
-
-// The lowest number of the row at or above i.
-pub fn next_from(row: [u64; 4], i: usize) -> Found
-    ensures { λ r. ⌜ r ≡ lowestFrom (bitAt row) i ⌝ }
-{
-    let mut at = i;
-    while at < 256 {
-        let w = row[at / 64] >> (at % 64);
-        if w > 0 {
-            let zeros = u64::trailing_zeros(w) as usize;
-            let found = at + zeros;
-            return Found::At(found);
-        }
-        at = (at / 64 + 1) * 64;
-    }
-    Found::Nothing
 }

@@ -25,7 +25,7 @@ fn column_is(memory: &[u64], set: [u64; 4], a: usize, wanted: bool) -> bool
 {
     let mut from = 0;
     loop {
-        let found = bitrow::next_from(set, from);
+        let found = row_reads::next_from(set, from);
         let Found::At(c) = found else {
             return true;
         };
@@ -62,7 +62,7 @@ fn same_user(memory: &[u64], set: [u64; 4], word: u64) -> [u64; 4]
     let mut chosen = bitrow::none();
     let mut from = 0;
     loop {
-        let found = bitrow::next_from(set, from);
+        let found = row_reads::next_from(set, from);
         let Found::At(c) = found else {
             return chosen;
         };

@@ -1,12 +1,11 @@
 // The test of the words before the rows: settings, and each slot of a container and of a policy.
 ghost use mathlib.Core.Path.{_≡_};
-ghost use Prim.Native.Nat.{_+_, _<_, _≤_};
-ghost use lib.ListN.{length};
+ghost use Prim.Native.Nat.{_<_};
 ghost use Rattle.block.specs.Reader.{within};
 ghost use Rattle.block.specs.Written.{validSettings};
 ghost use Rattle.store.specs.Layout.{Whole};
 ghost use Rattle.formed.specs.Words.{settingsIn};
-ghost use Rattle.formed.specs.Tests.{labelOk, labelsBetween, zeros as allZero, partOk, containerOk, policyOk, containersOk, policiesOk};
+ghost use Rattle.formed.specs.Tests.{containerOk, policyOk, containersOk, policiesOk};
 
 fn in_range(low: u64, high: u64, x: u64) -> bool
     ensures { λ r. ⌜ r ≡ within low high x ⌝ }
@@ -28,73 +27,15 @@ pub fn settings_ok(memory: &[u64]) -> bool
     user & ((key <= 64) & system)
 }
 
-// A label's word: its key exceeds the key before it, and key and value are in range.
-fn label_ok(last: u64, w: u64) -> bool
-    ensures { λ r. ⌜ r ≡ labelOk last w ⌝ }
-{
-    let key = w / 65536;
-    (last < key) & ((key <= 64) & (0 < w % 65536))
-}
-
-// The words from `from` on and before `to` are the labels of one list.
-fn labels_ok(memory: &[u64], from: usize, to: usize) -> bool
-    requires { ⌜ to ≤ length (now memory) ⌝ }
-    ensures { λ r. ⌜ r ≡ labelsBetween (now (memory .entry)) from to ⌝ }
-{
-    let mut last = 0u64;
-    let mut i = from;
-    while i < to {
-        let w = memory[i];
-        if !label_ok(last, w) {
-            return false;
-        }
-        last = w / 65536;
-        i += 1;
-    }
-    true
-}
-
-fn zeros(memory: &[u64], from: usize, to: usize) -> bool
-    requires { ⌜ to ≤ length (now memory) ⌝ }
-    ensures { λ r. ⌜ r ≡ allZero (now (memory .entry)) from to ⌝ }
-{
-    let mut i = from;
-    while i < to {
-        if memory[i] != 0 {
-            return false;
-        }
-        i += 1;
-    }
-    true
-}
-
-// A part of at most `limit` labels, whose header is at `at`.
-fn part_ok(memory: &[u64], at: usize, limit: usize) -> bool
-    requires { ⌜ at + 1 + limit ≤ length (now memory) ⌝ }
-    ensures { λ r. ⌜ r ≡ partOk (now (memory .entry)) at limit ⌝ }
-{
-    let head = memory[at] as usize;
-    if head == 0 {
-        return false;
-    }
-    if limit + 1 < head {
-        return false;
-    }
-    if !labels_ok(memory, at + 1, at + head) {
-        return false;
-    }
-    zeros(memory, at + head, at + 1 + limit)
-}
-
 fn container_ok(memory: &[u64], c: usize) -> bool
     requires { ⌜ Whole (now memory) × (c < 256) ⌝ }
     ensures { λ r. ⌜ r ≡ containerOk (now (memory .entry)) c ⌝ }
 {
     let at = store::CONTAINERS + store::CONTAINER_WORDS * c;
     if memory[at] == 0 {
-        return zeros(memory, at, at + store::CONTAINER_WORDS);
+        return part_tests::zeros(memory, at, at + store::CONTAINER_WORDS);
     }
-    part_ok(memory, at, 8)
+    part_tests::part_ok(memory, at, 8)
 }
 
 fn policy_ok(memory: &[u64], q: usize) -> bool
@@ -104,15 +45,15 @@ fn policy_ok(memory: &[u64], q: usize) -> bool
     let at = store::POLICIES + store::POLICY_WORDS * q;
     let direction = memory[at];
     if direction == 0 {
-        return zeros(memory, at, at + store::POLICY_WORDS);
+        return part_tests::zeros(memory, at, at + store::POLICY_WORDS);
     }
     if 2 < direction {
         return false;
     }
-    if !part_ok(memory, at + store::SELECT, 4) {
+    if !part_tests::part_ok(memory, at + store::SELECT, 4) {
         return false;
     }
-    part_ok(memory, at + store::ALLOW, 4)
+    part_tests::part_ok(memory, at + store::ALLOW, 4)
 }
 
 pub fn containers_ok(memory: &[u64]) -> bool

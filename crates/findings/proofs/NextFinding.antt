@@ -17,10 +17,10 @@ use Rattle.model.proofs.Next.{Least, NoneAfter, shown-is, shown-none, is-shown}
 use Rattle.formed.specs.Registry.{modelIn, bitsIn}
 use Rattle.findings.specs.Steps.{Place, placeFrom}
 use Rattle.container_findings.specs.Rows.{shownAt}
-use Rattle.findings.specs.Listing.{members, rowFindings}
+use Rattle.row_listing.specs.Listing.{members, rowFindings}
 use Rattle.findings.proofs.Walk.{SmallPlace, Come, thereIn, sized-there, come-start, come-found, come-skip, come-row, come-kind, come-end}
 use Rattle.findings.proofs.Inside.{shown-inside}
-use Rattle.findings.proofs.Members.{members-cut}
+use Rattle.row_listing.proofs.Members.{members-cut}
 
 there-shown : (m : List ℕ) → thereIn (shownAt m) ≡ shown (modelIn m) (bitsIn m)
 unfolding shownAt shown

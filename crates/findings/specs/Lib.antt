@@ -1,3 +1,2 @@
 -- What the contracts of `findings` cite.
 pub mod Steps
-pub mod Listing

@@ -1,7 +1,7 @@
 -- The answer to a cursor: the next finding and the cursor moved to it, or none; and a walk.
 use mathlib.Core.List.{List, [], _∷_}
 use mathlib.Core.Option.{Option, none, some}
-use Prim.Native.Nat.{ℕ, zero, suc}
+use Prim.Native.Nat.{ℕ, zero, suc, _/_, _%_}
 use Rattle.model.specs.declared.Finding.{Finding}
 use Rattle.model.specs.Findings as model
 use Rattle.findings.specs.declared.Cursor.{Cursor}
@@ -14,6 +14,10 @@ Place = model.Cursor
 
 abbrev pub placeFrom : ℕ → ℕ → ℕ → Place
 placeFrom k a b = record { kind = k; a = a; b = b }
+
+-- the place of the finding whose number this is
+abbrev pub placeAt : ℕ → Place
+placeAt code = placeFrom (code / 4294967296) (code / 65536 % 65536) (code % 65536)
 
 -- the place that a cursor stands at
 abbrev pub cursorPlace : Cursor → Place

@@ -8,12 +8,9 @@ ghost use Rattle.bitrow.specs.Bit.{bitAt};
 ghost use Rattle.buffer.specs.Buffer.{Puts};
 ghost use Rattle.model.specs.Findings.{nextAfter, walk, moved, findingCode};
 ghost use Rattle.formed.specs.Registry.{modelIn, bitsIn, wellFormed};
-ghost use Rattle.findings.specs.Steps.{nextStep, cursorPlace};
+ghost use Rattle.findings.specs.Steps.{nextStep, cursorPlace, placeAt};
 ghost use Rattle.container_findings.specs.Rows.{shownAt, containersStand, policiesStand};
-ghost use Rattle.findings.specs.Listing.{placeAt};
 use model::Finding;
-
-mod listing;
 
 // A place in the list of findings: any three numbers.
 pub struct Cursor {
@@ -79,7 +76,13 @@ impl Cursor {
         while (kind < 8) & (at < list.len()) {
             if (0 < kind) & (a < 256) {
                 let row = finding_row(memory, containers, policies, kind, a);
-                at = listing::put_row(list, at, kind, a, bitrow::both(row, bitrow::at_least(from)));
+                at = row_listing::put_row(
+                    list,
+                    at,
+                    kind,
+                    a,
+                    bitrow::both(row, bitrow::at_least(from)),
+                );
                 a += 1;
                 from = 0;
             } else {

@@ -263,6 +263,6 @@ fn run_all(memory: &mut [u64]) {
 }
 
 fn main() {
-    let mut memory = [0u64; 5763];
+    let mut memory = [0u64; store::WORDS];
     run_all(&mut memory);
 }

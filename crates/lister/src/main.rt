@@ -76,7 +76,7 @@ fn pump(memory: &mut [u64], block: &mut [u8], bytes: &mut [u8], out: &mut [u8]) 
 }
 
 fn main() {
-    let mut memory = [0u64; 5763];
+    let mut memory = [0u64; store::WORDS];
     let mut block = [0u8; 512];
     let mut bytes = io::large_buffer();
     let mut out = io::large_buffer();

@@ -13,9 +13,9 @@ fn row_ok(memory: &[u64], r: usize, owner: u64, standing: [u64; 4]) -> bool
 {
     let row = store::row_at(memory, r);
     if owner == 0 {
-        return bitrow::is_empty(row);
+        return row_reads::is_empty(row);
     }
-    bitrow::within(row, standing)
+    row_reads::part_of(row, standing)
 }
 
 fn matrix_ok(memory: &[u64], standing: [u64; 4]) -> bool

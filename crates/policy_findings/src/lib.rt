@@ -43,8 +43,8 @@ fn shadow_at(memory: &[u64], a: usize, b: usize, who: [u64; 4], whom: [u64; 4]) 
     let one_way = one_direction(memory, a, b);
     let other_who = stored_selected(memory, b);
     let other_whom = stored_allowed(memory, b);
-    let under = bitrow::within(who, other_who) & bitrow::within(whom, other_whom);
-    let over = bitrow::within(other_who, who) & bitrow::within(other_whom, whom);
+    let under = row_reads::part_of(who, other_who) & row_reads::part_of(whom, other_whom);
+    let over = row_reads::part_of(other_who, who) & row_reads::part_of(other_whom, whom);
     (a != b) & (one_way & (under & (!over | (b < a))))
 }
 
@@ -56,9 +56,9 @@ fn conflict_at(memory: &[u64], a: usize, b: usize, who: [u64; 4], whom: [u64; 4]
     let one_way = one_direction(memory, a, b);
     let other_who = stored_selected(memory, b);
     let other_whom = stored_allowed(memory, b);
-    let apart = bitrow::is_empty(bitrow::both(who, other_who));
-    let idle = bitrow::is_empty(other_whom);
-    let disjoint = bitrow::is_empty(bitrow::both(whom, other_whom));
+    let apart = row_reads::is_empty(bitrow::both(who, other_who));
+    let idle = row_reads::is_empty(other_whom);
+    let disjoint = row_reads::is_empty(bitrow::both(whom, other_whom));
     (a < b) & (one_way & (!apart & (!idle & disjoint)))
 }
 
@@ -94,7 +94,7 @@ fn compare_all(
     let mut chosen = bitrow::none();
     let mut from = 0;
     loop {
-        let found = bitrow::next_from(policies, from);
+        let found = row_reads::next_from(policies, from);
         let Found::At(b) = found else {
             return chosen;
         };
@@ -110,10 +110,10 @@ fn compare_all(
 fn irrelevance(who: [u64; 4], whom: [u64; 4]) -> [u64; 4]
     ensures { λ r. ⌜ bitAt r ≡ needless (hasSome (bitAt who)) (hasSome (bitAt whom)) ⌝ }
 {
-    if bitrow::is_empty(who) {
+    if row_reads::is_empty(who) {
         return bitrow::with(bitrow::none(), 0);
     }
-    if bitrow::is_empty(whom) {
+    if row_reads::is_empty(whom) {
         return bitrow::with(bitrow::none(), 1);
     }
     bitrow::none()
@@ -132,7 +132,7 @@ pub fn policy_row(memory: &[u64], policies: [u64; 4], kind: usize, a: usize) -> 
     if kind == 7 {
         return irrelevance(who, whom);
     }
-    if bitrow::is_empty(who) | bitrow::is_empty(whom) {
+    if row_reads::is_empty(who) | row_reads::is_empty(whom) {
         return bitrow::none();
     }
     if kind < 7 {

@@ -3,14 +3,12 @@
 ghost use mathlib.Core.Path.{_≡_};
 ghost use lib.ListN.{length};
 ghost use Rattle.buffer.specs.Buffer.{overwritten};
-ghost use Rattle.model.specs.Findings.{findingCode};
 ghost use Rattle.model.specs.Calls.{openWith, change, admit, removeContainer, removePolicy, rebuild, ask, askReaches, askUser, nextFinding, listFindings, counts, audit, written};
 ghost use Rattle.store.specs.Layout.{memoryWords};
 ghost use Rattle.steps.specs.MemoryStep.{memoryStep};
-ghost use Rattle.codes.specs.Codes.{refusalCode, truthCode, codedStep};
+ghost use Rattle.codes.specs.Codes.{codedStep};
 use findings::Cursor;
 use model::ContainerSlot;
-use model::Finding;
 use model::PolicySlot;
 use registry::Admitted;
 use registry::Counted;
@@ -18,28 +16,6 @@ use registry::FindingsPut;
 use registry::NextFinding;
 use registry::Outcome;
 use registry::Reply;
-
-// ---- the numbers
-
-fn refused(number: u8) -> u64
-    ensures { λ r. ⌜ r ≡ refusalCode number ⌝ }
-{
-    number as u64 * 72057594037927936
-}
-
-fn truth(says: bool) -> u64
-    ensures { λ r. ⌜ r ≡ truthCode says ⌝ }
-{
-    if says { 1 } else { 0 }
-}
-
-fn finding_code(finding: Finding) -> u64
-    ensures { λ r. ⌜ r ≡ findingCode finding ⌝ }
-{
-    finding.kind as u64 * 4294967296 + finding.a as u64 * 65536 + finding.b as u64
-}
-
-// ---- the calls
 
 #[no_mangle]
 pub extern "C" fn bihokura_words() -> u64
@@ -54,7 +30,7 @@ pub extern "C" fn bihokura_open(memory: &mut [u64], block: &[u8]) -> u64
 {
     let answer = registry::open(memory, block);
     match answer {
-        Outcome::Refused(number) => refused(number),
+        Outcome::Refused(number) => codes::refused(number),
         Outcome::Done => 0,
     }
 }
@@ -65,7 +41,7 @@ pub extern "C" fn bihokura_admit(memory: &mut [u64], block: &[u8]) -> u64
 {
     let answer = registry::admit(memory, block);
     match answer {
-        Admitted::Refused(number) => refused(number),
+        Admitted::Refused(number) => codes::refused(number),
         Admitted::Container(slot) => slot.0 as u64,
         Admitted::Policy(slot) => slot.0 as u64,
     }
@@ -77,7 +53,7 @@ pub extern "C" fn bihokura_remove_container(memory: &mut [u64], slot: u64) -> u6
 {
     let answer = registry::remove_container(memory, ContainerSlot(slot as usize));
     match answer {
-        Outcome::Refused(number) => refused(number),
+        Outcome::Refused(number) => codes::refused(number),
         Outcome::Done => 0,
     }
 }
@@ -88,7 +64,7 @@ pub extern "C" fn bihokura_remove_policy(memory: &mut [u64], slot: u64) -> u64
 {
     let answer = registry::remove_policy(memory, PolicySlot(slot as usize));
     match answer {
-        Outcome::Refused(number) => refused(number),
+        Outcome::Refused(number) => codes::refused(number),
         Outcome::Done => 0,
     }
 }
@@ -99,8 +75,8 @@ pub extern "C" fn bihokura_reaches(memory: &[u64], a: u64, b: u64) -> u64
 {
     let answer = registry::reaches(memory, ContainerSlot(a as usize), ContainerSlot(b as usize));
     match answer {
-        Reply::Refused(number) => refused(number),
-        Reply::Says(says) => truth(says),
+        Reply::Refused(number) => codes::refused(number),
+        Reply::Says(says) => codes::truth(says),
     }
 }
 
@@ -110,8 +86,8 @@ pub extern "C" fn bihokura_carries_user(memory: &[u64], slot: u64, value: u64) -
 {
     let answer = registry::carries_user(memory, ContainerSlot(slot as usize), value);
     match answer {
-        Reply::Refused(number) => refused(number),
-        Reply::Says(says) => truth(says),
+        Reply::Refused(number) => codes::refused(number),
+        Reply::Says(says) => codes::truth(says),
     }
 }
 
@@ -128,8 +104,8 @@ pub extern "C" fn bihokura_next_finding(memory: &[u64], kind: u16, a: u16, b: u1
         },
     );
     match answer {
-        NextFinding::Refused(number) => refused(number),
-        NextFinding::Found(finding, _) => finding_code(finding),
+        NextFinding::Refused(number) => codes::refused(number),
+        NextFinding::Found(finding, _) => codes::finding_code(finding),
         NextFinding::Nothing => 0,
     }
 }
@@ -155,7 +131,7 @@ pub extern "C" fn bihokura_findings(
         list,
     );
     match answer {
-        FindingsPut::Refused(number) => refused(number),
+        FindingsPut::Refused(number) => codes::refused(number),
         FindingsPut::Findings(count, _) => count as u64,
     }
 }
@@ -166,7 +142,7 @@ pub extern "C" fn bihokura_counts(memory: &[u64]) -> u64
 {
     let answer = registry::counts(memory);
     match answer {
-        Counted::Refused(number) => refused(number),
+        Counted::Refused(number) => codes::refused(number),
         Counted::Counts(containers, policies, pairs) => {
             containers + policies * 65536 + pairs * 4294967296
         }
@@ -179,7 +155,7 @@ pub extern "C" fn bihokura_rebuild(memory: &mut [u64]) -> u64
 {
     let answer = registry::rebuild(memory);
     match answer {
-        Outcome::Refused(number) => refused(number),
+        Outcome::Refused(number) => codes::refused(number),
         Outcome::Done => 0,
     }
 }
@@ -190,7 +166,7 @@ pub extern "C" fn bihokura_audit(memory: &[u64]) -> u64
 {
     let answer = registry::audit(memory);
     match answer {
-        Reply::Refused(number) => refused(number),
-        Reply::Says(says) => truth(says),
+        Reply::Refused(number) => codes::refused(number),
+        Reply::Says(says) => codes::truth(says),
     }
 }

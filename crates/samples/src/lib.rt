@@ -1,6 +1,6 @@
 // Blocks of 512 bytes, made and sealed.
 ghost use mathlib.Core.Path.{_≡_};
-ghost use Prim.Native.Nat.{_≤_, _<_};
+ghost use Prim.Native.Nat.{_+_, _%_, _≤_, _<_};
 ghost use lib.ListN.{length};
 
 // What a block is made of: its first four bytes, then labels with rising keys and value 1, then one byte put anywhere before
@@ -18,7 +18,9 @@ pub struct Shape {
 }
 
 // Settings with this user key and this system key, of value 9.
-pub fn settings(user: u8, system: u8) -> Shape {
+pub fn settings(user: u8, system: u8) -> Shape
+    ensures { λ r. ⌜ r ≡ record { kind = 83; one = user; two = system; three = 0; labels = 0; key = 0; at = 5; byte = 9; above = 0 } ⌝ }
+{
     Shape {
         kind: 83,
         one: user,
@@ -33,7 +35,9 @@ pub fn settings(user: u8, system: u8) -> Shape {
 }
 
 // A container with so many labels, the first with this key.
-pub fn container(labels: u8, key: u8) -> Shape {
+pub fn container(labels: u8, key: u8) -> Shape
+    ensures { λ r. ⌜ r ≡ record { kind = 67; one = labels; two = 0; three = 0; labels = labels; key = key; at = 0; byte = 67; above = 0 } ⌝ }
+{
     Shape {
         kind: 67,
         one: labels,
@@ -48,7 +52,9 @@ pub fn container(labels: u8, key: u8) -> Shape {
 }
 
 // A policy of this direction with so many select and allow labels, the first of all with this key.
-pub fn policy(direction: u8, select: u8, allow: u8, key: u8) -> Shape {
+pub fn policy(direction: u8, select: u8, allow: u8, key: u8) -> Shape
+    ensures { λ r. ⌜ r ≡ record { kind = 80; one = direction; two = select; three = allow; labels = (select + allow) % 256; key = key; at = 0; byte = 80; above = 0 } ⌝ }
+{
     Shape {
         kind: 80,
         one: direction,
@@ -63,7 +69,9 @@ pub fn policy(direction: u8, select: u8, allow: u8, key: u8) -> Shape {
 }
 
 // The shape with this byte put there, in the place of the byte that it says.
-pub fn with(shape: Shape, at: usize, byte: u8) -> Shape {
+pub fn with(shape: Shape, at: usize, byte: u8) -> Shape
+    ensures { λ r. ⌜ r ≡ record { kind = shape .kind; one = shape .one; two = shape .two; three = shape .three; labels = shape .labels; key = shape .key; at = at; byte = byte; above = shape .above } ⌝ }
+{
     let mut changed = shape;
     changed.at = at;
     changed.byte = byte;
@@ -71,7 +79,9 @@ pub fn with(shape: Shape, at: usize, byte: u8) -> Shape {
 }
 
 // The shape with a wrong checksum.
-pub fn spoiled(shape: Shape) -> Shape {
+pub fn spoiled(shape: Shape) -> Shape
+    ensures { λ r. ⌜ r ≡ record { kind = shape .kind; one = shape .one; two = shape .two; three = shape .three; labels = shape .labels; key = shape .key; at = shape .at; byte = shape .byte; above = 1 } ⌝ }
+{
     let mut changed = shape;
     changed.above = 1;
     changed

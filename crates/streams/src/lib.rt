@@ -1,4 +1,6 @@
 // Standard input and output, read and written on where a call failed only for now.
+ghost use mathlib.Core.Bool.{true};
+ghost use mathlib.Core.Path.{_≡_};
 ghost use Prim.Native.Nat.{_≤_};
 ghost use lib.ListN.{length};
 ghost use Rattle.libc.specs.Io.{Moved};
@@ -61,9 +63,11 @@ fn write_some(bytes: &[u8]) -> usize
     io::count(libc::write(STDOUT_FILENO, bytes), bytes)
 }
 
-// Writes the bytes before `end` to standard output, a short write written on; whether all were written.
+// Writes the bytes before `end` to standard output, a short write written on; whether all were written. The C library's contracts say
+// nothing of what is shown: all that follows is that writing nothing does not fail.
 pub fn write(out: &[u8], end: usize) -> bool
     requires { ⌜ end ≤ length (now out) ⌝ }
+    ensures { λ r. ⌜ (end ≡ 0 → r ≡ true) ⌝ }
 {
     let mut at = 0;
     while at < end {

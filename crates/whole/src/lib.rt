@@ -81,7 +81,7 @@ pub fn is_consistent(memory: &[u64]) -> bool
     let mut x = 0;
     while x < store::ROW_COUNT {
         let row = row_of_bits(x, gathered, &selected, &allowed, &outs, &backs);
-        if !bitrow::same(store::row_at(memory, x), row) {
+        if !row_reads::same(store::row_at(memory, x), row) {
             return false;
         }
         x += 1;

@@ -12,7 +12,7 @@ returns : tie.Need-returns
 returns c = c .is-empty .ensures ∙ ap (λ row. not (hasSome (bitAt row))) (c .before .before .row-at .ensures) ∙ sym (row-free _ _ _ _ (c .before .if1 .taken))
 
 returns-2 : tie.Need-returns-2
-returns-2 c = c .within .ensures ∙ ap (λ row. part (bitAt row) (bitAt (c .before .before .before .before .args .standing))) (c .before .before .row-at .ensures) ∙ sym (row-owned _ _ _ _ (c .before .if1 .left))
+returns-2 c = c .part-of .ensures ∙ ap (λ row. part (bitAt row) (bitAt (c .before .before .before .before .args .standing))) (c .before .before .row-at .ensures) ∙ sym (row-owned _ _ _ _ (c .before .if1 .left))
 
 pub row-ok-spec : {M : Type 1} → statement M
 row-ok-spec =

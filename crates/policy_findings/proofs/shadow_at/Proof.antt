@@ -13,7 +13,7 @@ returns c =
     let r1 = r2 .before in
     let o = r1 .before in
     shadow-test _ _ _ _ _ (o .before .before .pre .0) _ _ (r1 .stored-selected .ensures) (r2 .stored-allowed .ensures) (o .one-direction .ensures)
-    (w1 .within .ensures) (w2 .within2 .ensures) (w3 .within3 .ensures) (c .within4 .ensures)
+    (w1 .part-of .ensures) (w2 .part-of2 .ensures) (w3 .part-of3 .ensures) (c .part-of4 .ensures)
 
 pub shadow-at-spec : {M : Type 1} → statement M
 shadow-at-spec =

@@ -5,7 +5,7 @@ use lib.ListN.{length}
 use borrow.Author.Needs.{needs}
 use Rattle.formed.proofs.Reading.{formed-whole}
 use Rattle.findings.specs.Steps.{cursorPlace}
-use Rattle.findings.proofs.LoopTests.{both-less, not-both-less}
+use Rattle.row_listing.proofs.LoopTests.{both-less, not-both-less}
 use Rattle.findings.proofs.Walk.{SmallPlace}
 use Rattle.findings.proofs.PutSoFar.{PutSoFar, listed-none, listed-size, listed-room, listed-reached, listed-row, listed-kind, listed-puts, listed-still, listed-small, listed-moved}
 use Rattle.findings.proofs.Cursor.list.Statement.{statement}

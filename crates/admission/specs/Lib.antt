@@ -1,2 +1,0 @@
--- What the contracts of `admission` cite.
-pub mod Admission

@@ -1,0 +1,2 @@
+-- What the contracts of `free_slots` cite.
+pub mod Admission

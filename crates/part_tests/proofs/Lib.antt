@@ -1,0 +1,1 @@
+-- The laws behind the proofs of `part_tests` stand in `formed`.

@@ -1,0 +1,1 @@
+-- What the contracts of `part_tests` cite stands in `formed`.

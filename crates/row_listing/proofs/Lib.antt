@@ -1,0 +1,4 @@
+-- Laws of `row_listing`.
+pub mod LoopTests
+pub mod Members
+mod Putting

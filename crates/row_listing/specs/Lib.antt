@@ -1,0 +1,2 @@
+-- What the contracts of `row_listing` cite.
+pub mod Listing
