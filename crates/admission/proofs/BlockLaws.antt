@@ -1,69 +1,33 @@
--- What the reading of a block says of an open and of an admission: refused as the reading is; accepted, the words say the settings or
--- the entry of the block.
+-- What the reading of a block says of an admission: refused as the reading is; accepted, the words say the entry of the block.
 use mathlib.Core.Path.{_≡_, refl, sym, ap, _∙_, subst}
 use mathlib.Core.Bool.{true}
 use mathlib.Core.List.{List}
 use Prim.Native.Nat.{ℕ}
 use native.Mathlib.Omega.{arith}
-use lib.ListN.{length}
 use Rattle.block.specs.declared.Refusal.{Refusal}
-use Rattle.block.specs.declared.Tested.{Tested}
 use Rattle.block.specs.declared.Tested.the-variants.{Passed, Refused}
 use Rattle.block.specs.declared.Sort.the-variants as sort
 use Rattle.block.specs.declared.Labels.{Labels}
 use Rattle.block.specs.declared.EntryWords.{EntryWords}
 use Rattle.block.specs.declared.EntryReading.{EntryReading}
-use Rattle.block.specs.declared.SettingsReading.{SettingsReading}
 use Rattle.block.specs.Entry.{Container, Policy, Settings, Entry, container, policy}
-use Rattle.block.specs.Refusal.{Read, refused, accepted, testedOf}
-use Rattle.block.specs.Reader.{readSettings, readEntry}
-use Rattle.block.specs.Reading.{packed, entryWords, entryWordsIn, settingsWords, settingsOf, settingsWordsIn, ReadsSettings, ReadsEntry}
+use Rattle.block.specs.Refusal.{accepted}
+use Rattle.block.specs.Reader.{readEntry}
+use Rattle.block.specs.Reading.{packed, entryWords, entryWordsIn, settingsOf, ReadsEntry}
 use Rattle.block.specs.Written.{directionNumber}
 use Rattle.block.proofs.Accepted.{accepted-valid}
-use Rattle.model.specs.Calls.{openWith, change, admit, refusal, done}
-use Rattle.model.specs.Registry.{opened}
-use Rattle.store.specs.Layout.{memoryWords, wordAt}
+use Rattle.model.specs.Calls.{change, admit, refusal}
+use Rattle.store.specs.Layout.{wordAt}
 use Rattle.formed.specs.Words.{settingsIn}
-use Rattle.formed.specs.Registry.{modelIn, image, wellFormed}
+use Rattle.formed.specs.Registry.{modelIn, wellFormed}
 use Rattle.formed.specs.Labels.{unpacked}
 use Rattle.steps.specs.MemoryStep.{memoryStep}
-use Rattle.steps.proofs.Outcomes.{open-refused, open-done, admit-refused}
+use Rattle.steps.proofs.Outcomes.{admit-refused}
+use Rattle.opening.proofs.OpenLaws.{read-refused, read-accepted}
 use Rattle.container_changes.specs.OneContainer.{SaysContainer}
 use Rattle.container_changes.proofs.ContainerLaws.{unpacked-is, says-container}
 use Rattle.policy_entries.specs.PolicyEntry.{policyFrom, PolicyWords, SaysPolicy}
 use Rattle.policy_entries.proofs.SaidPolicy.{policy-given, says-given}
-
--- ---- a reading
-
-module _ {A : Type 0} (t : Tested) (o : Read A) (says : t ≡ testedOf o) where
-  read-refused : (f : Refusal) → t ≡ Refused f → o ≡ refused f
-  read-refused f e = pick o (sym says ∙ e)
-    where
-      pick : (x : Read A) → testedOf x ≡ Refused f → x ≡ refused f
-      pick (refused g) h = cc
-      pick (accepted x) h = cc
-
-  read-accepted : t ≡ Passed → (x : A) × (o ≡ accepted x)
-  read-accepted e = pick o (sym says ∙ e)
-    where
-      pick : (x : Read A) → testedOf x ≡ Passed → (y : A) × (x ≡ accepted y)
-      pick (refused g) h = let z : _≡_ {A = ℕ} 0 1 = cc in absurd (omega arith)
-      pick (accepted x) h = (x, refl)
-
--- ---- open
-
-module _ (m b : List ℕ) (whole : length m ≡ memoryWords) (r : SettingsReading) (reads : ReadsSettings b r) where
-  pub open-refused-by : (by : Refusal) → r .tested ≡ Refused by → memoryStep m (openWith b) ≡ (m, refusal (by .number))
-  open-refused-by by e = open-refused m b whole by (read-refused (r .tested) (readSettings b) (reads .tested) by e)
-
-  pub open-answer : (m′ : List ℕ) → r .tested ≡ Passed → m′ ≡ image (opened (settingsOf (r .settings))) → memoryStep m (openWith b) ≡ (m′, done)
-  unfolding settingsWords settingsOf
-  open-answer m′ e h =
-      let s = read-accepted (r .tested) (readSettings b) (reads .tested) e in
-      let w : settingsOf (r .settings) ≡ s .0 = ap settingsOf (reads .settings ∙ ap settingsWordsIn (s .1)) in
-      open-done m b whole (s .0) (s .1) ∙ ap (λ x. (image (opened x), done)) (sym w) ∙ ap (λ x. (x, done)) (sym h)
-
--- ---- admit
 
 pub settings-here : (m : List ℕ) → settingsOf (record { «user_key» = wordAt m 0; «system_key» = wordAt m 1; «system_value» = wordAt m 2 }) ≡ modelIn m .settings
 unfolding settingsOf modelIn settingsIn

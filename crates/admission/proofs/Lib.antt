@@ -1,2 +1,2 @@
--- The laws of open and admit.
+-- The laws of admit.
 pub mod BlockLaws

@@ -1,31 +1,12 @@
-// The calls that take a block: open, and the admission of a container or a policy.
+// The admission of a container or a policy.
 ghost use mathlib.Core.Path.{_≡_};
-ghost use Rattle.model.specs.Calls.{openWith, change, admit};
+ghost use Rattle.model.specs.Calls.{change, admit};
 ghost use Rattle.steps.specs.MemoryStep.{memoryStep};
-ghost use Rattle.answers.specs.Answers.{outcomeAnswer, admittedAnswer};
+ghost use Rattle.answers.specs.Answers.{admittedAnswer};
 use answers::Admitted;
-use answers::Outcome;
 use block::Settings;
 use block::Sort;
 use block::Tested;
-use block::numbers;
-
-// A registry without entries, under the settings of the block. What the memory held before counts for nothing.
-pub fn open(memory: &mut [u64], block: &[u8]) -> Outcome
-    ensures { λ r. ⌜ (now (memory .exit), outcomeAnswer r) ≡ memoryStep (now (memory .entry)) (openWith (now (block .entry))) ⌝ }
-{
-    if memory.len() != store::WORDS {
-        return Outcome::Refused(numbers::MEMORY_SIZE);
-    }
-    let reading = reader::read_settings(block);
-    let tested = reading.tested;
-    if let Tested::Refused(by) = tested {
-        return Outcome::Refused(by.number);
-    }
-    let settings = reading.settings;
-    container_changes::start(memory, settings);
-    Outcome::Done
-}
 
 // The container or policy of the block comes to the lowest free slot of its table.
 pub fn admit(memory: &mut [u64], block: &[u8]) -> Admitted

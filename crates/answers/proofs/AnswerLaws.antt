@@ -3,12 +3,13 @@ use mathlib.Core.Path.{_≡_, sym, ap, ap₂, _∙_}
 use mathlib.Core.Bool.{false}
 use mathlib.Core.List.{List}
 use Prim.Native.Nat.{ℕ}
+use Rattle.model.specs.Findings.{Place}
 use Rattle.buffer.specs.Buffer.{overwritten}
 use Rattle.model.specs.Calls.{Call, Answer, refusal, written}
 use Rattle.steps.specs.MemoryStep.{changes, memoryStep}
 use Rattle.steps.proofs.Refused.{refused-unchanged, query-unchanged}
 use Rattle.findings.specs.declared.Cursor.{Cursor}
-use Rattle.findings.specs.Steps.{Place, cursorPlace}
+use Rattle.findings.specs.Steps.{cursorPlace}
 use Rattle.answers.specs.declared.Outcome.{Outcome}
 use Rattle.answers.specs.declared.Outcome.the-variants as outcome
 use Rattle.answers.specs.declared.Reply.{Reply}

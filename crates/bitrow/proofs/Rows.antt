@@ -64,9 +64,6 @@ row-ext r s p q f =
     let k4 : k < 4 = omega (arith, p .four) in
     word-ext 64 (getD r k 0) (getD s k 0) (p .small k .fits) (q .small k .fits) (λ i l. sym (word-bit r k i l) ∙ f (k * 64 + i) (omega arith) ∙ word-bit s k i l))
 
-pub row-same : {r s : List ℕ} → Row r → Row s → bitAt r ≡ bitAt s → r ≡ s
-row-same p q e = row-ext _ _ p q (λ j h. at e j)
-
 -- ---- rows of known words
 
 same-word : (w k : ℕ) → k < 4 → getD (w ∷ w ∷ w ∷ w ∷ []) k 0 ≡ w

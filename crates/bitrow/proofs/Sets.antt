@@ -200,6 +200,10 @@ less-under s i = fun-ext (λ j. and-comm (s j) (not (under i j)) ∙ ap (λ (b :
     go j (yes h) = ap not (under-in i j h) ∙ sym (at-least-out i j h)
     go j (no m) = ap not (under-out i j (omega arith)) ∙ sym (at-least-in i j (omega arith))
 
+-- all of u less those of u below i
+pub less-below : (u : ℕ → Bool) (i : ℕ) {r s t : ℕ → Bool} → s ≡ u → t ≡ meet (under i) u → r ≡ less s t → r ≡ meet (atLeast i) u
+less-below u i {r} {s} {t} p q e = e ∙ ap (λ (k : ℕ → Bool). less k t) p ∙ ap (less u) q ∙ less-meet u (under i) ∙ less-under u i
+
 -- the part of a set below a number, as that number goes up to the next of the set
 pub meet-next : (s : ℕ → Bool) (i n j : ℕ) → Lowest s i n j → insert j (meet s (under i)) ≡ meet s (under (j + 1))
 unfolding meet

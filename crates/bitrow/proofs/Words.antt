@@ -20,11 +20,11 @@ use Rattle.bitrow.proofs.Sizes.{size-zero, size-low, size-cong}
 two-pos : zero < 2
 two-pos = zero-lt-suc 1
 
-one-lt : (b : Bool) → one b < 2
+pub one-lt : (b : Bool) → one b < 2
 one-lt true = omega arith
 one-lt false = omega arith
 
-digit-one : (b : Bool) → digit (one b) ≡ b
+pub digit-one : (b : Bool) → digit (one b) ≡ b
 digit-one true = refl
 digit-one false = refl
 

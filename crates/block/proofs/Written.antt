@@ -21,7 +21,7 @@ use Rattle.block.proofs.Sealed.{number-back, sealed-begins, sealed-leng
 
 -- ---- what a block says is what it was written from
 
-direction-back : (d : Direction) → directionOf (directionNumber d) ≡ d
+pub direction-back : (d : Direction) → directionOf (directionNumber d) ≡ d
 unfolding directionOf
 direction-back ingress = refl
 direction-back egress = refl

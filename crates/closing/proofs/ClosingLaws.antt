@@ -6,21 +6,22 @@ use Prim.Native.Nat.{ℕ, _≤_, _<_}
 use native.Mathlib.Omega.{arith}
 use lib.ListN.{length, take, length-take}
 use borrow.Author.Tests.{lt-ltb, le-ltb}
+use Rattle.model.specs.Findings.{Place}
 use Rattle.buffer.specs.Buffer.{Puts}
 use Rattle.buffer.proofs.BufferLaws.{puts-none}
 use Rattle.model.specs.Calls.{Answer, ask, counts, listFindings, written}
 use Rattle.steps.specs.MemoryStep.{memoryStep}
 use Rattle.findings.specs.declared.Cursor.{Cursor}
-use Rattle.findings.specs.Steps.{Place, cursorPlace}
+use Rattle.findings.specs.Steps.{cursorPlace}
 use Rattle.answers.specs.declared.FindingsPut.{FindingsPut}
 use Rattle.answers.specs.declared.FindingsPut.the-variants.{Refused, Findings}
 use Rattle.answers.specs.Answers.{putAnswer, countPut}
-use Rattle.intake.specs.declared.State.{State}
-use Rattle.intake.specs.declared.State.the-variants.{Listing, Finished}
-use Rattle.intake.specs.declared.Told.{Told}
-use Rattle.intake.specs.Told.{Tells}
+use Rattle.sheets.specs.declared.State.{State}
+use Rattle.sheets.specs.declared.State.the-variants.{Listing, Finished}
+use Rattle.sheets.specs.declared.Told.{Told}
+use Rattle.sheets.specs.Told.{Tells}
 use Rattle.text.specs.Lines.{codeLines}
-use Rattle.closing.specs.Closing.{counting, countStep, linesIn, listing, listStep}
+use Rattle.sheets.specs.Closing.{counting, countStep, linesIn, listing, listStep}
 
 -- ---- the counts
 

@@ -5,13 +5,13 @@ ghost use lib.ListN.{length};
 ghost use Rattle.steps.specs.MemoryStep.{memoryStep};
 ghost use Rattle.model.specs.Calls.{ask, listFindings};
 ghost use Rattle.findings.specs.Steps.{cursorPlace};
-ghost use Rattle.intake.specs.Told.{Tells};
-ghost use Rattle.closing.specs.Closing.{countStep, linesIn, listing, listStep};
+ghost use Rattle.sheets.specs.Told.{Tells};
+ghost use Rattle.sheets.specs.Closing.{countStep, linesIn, listing, listStep};
 use findings::Cursor;
-use intake::State;
-use intake::Told;
 use registry::Counted;
 use registry::FindingsPut;
+use sheets::State;
+use sheets::Told;
 
 // Puts the counts.
 pub fn tell_counts(memory: &[u64], out: &mut [u8]) -> Told

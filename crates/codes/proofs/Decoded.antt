@@ -7,7 +7,7 @@ use native.Mathlib.Omega.{arith}
 use Rattle.block.specs.Entry.{Entry, container, policy}
 use Rattle.block.specs.Reader.{entrySaid}
 use Rattle.model.specs.declared.Finding.{Finding}
-use Rattle.model.specs.Findings.{Cursor, placeOf, moved, findingCode}
+use Rattle.model.specs.Findings.{Place, placeOf, moved, findingCode}
 use Rattle.model.specs.Calls.{askReaches, askUser, nextFinding, listFindings, counts, audit}
 use Rattle.model.specs.Calls.{Call, openWith, change, admit, removeContainer, removePolicy, rebuild, ask}
 use Rattle.model.specs.Calls.{Answer, refusal, done, containerAt, policyAt, says, found, noFinding, findingsPut, counted, written}
@@ -120,7 +120,7 @@ pub record InRange (g : Finding) : Type 0 where
   pub some : 0 < g .kind
   pub small : SmallPlace (placeOf g)
 
-module _ (g : Finding) (c : Cursor) (i : InRange g) where
+module _ (g : Finding) (c : Place) (i : InRange g) where
   pub top-found : topByte [] (codeOf (found g c)) ≡ 0
   unfolding findingCode
   top-found = top-small (codeOf (found g c)) (omega (arith, i .small .smallKind, i .small .smallA, i .small .smallB))
@@ -153,7 +153,7 @@ pub findings-back : (l : List Finding) → All InRange l → map findingOf (map 
 findings-back [] t = refl
 findings-back (g ∷ l) t = ap₂ _∷_ (finding-back g (placeOf g) (t .0)) (findings-back l (t .1))
 
-pub top-put : (l : List Finding) (c : Cursor) → topByte (written (findingsPut (map findingCode l) c)) (codeOf (findingsPut (map findingCode l) c)) ≡ 0
+pub top-put : (l : List Finding) (c : Place) → topByte (written (findingsPut (map findingCode l) c)) (codeOf (findingsPut (map findingCode l) c)) ≡ 0
 unfolding topByte
 top-put [] c = omega arith
 top-put (g ∷ l) c = refl

@@ -18,7 +18,7 @@ use Rattle.block.specs.Entry.{Policy, Entry, container, policy}
 use Rattle.block.specs.Reader.{entrySaid}
 use Rattle.model.specs.declared.Finding.{Finding}
 use Rattle.model.specs.Table.{all, at, lowestFree}
-use Rattle.model.specs.Findings.{Cursor, containersOf, policiesOf, findings, placeOf, walk, moved, findingCode, pairs}
+use Rattle.model.specs.Findings.{Place, containersOf, policiesOf, findings, placeOf, walk, moved, findingCode, pairs}
 use Rattle.model.specs.Calls.{askReaches, askUser, nextFinding, listFindings, counts, audit}
 use Rattle.model.specs.Calls.{Call, openWith, change, admit, removeContainer, removePolicy, rebuild, ask}
 use Rattle.model.specs.Calls.{Answer, refusal, done, containerAt, policyAt, says, noFinding, found, findingsPut, counted, foundAnswer, findingsAnswer, written}
@@ -68,17 +68,17 @@ first-positive (c ∷ cs) t f e = pick (c .fault) e (first-positive cs (h .1) f)
 -- ---- the findings that a memory gives
 
 module _ (m : List ℕ) where
-  next-in-range : (c : Cursor) (g : Finding) → nextIn m c ≡ some g → InRange g
+  next-in-range : (c : Place) (g : Finding) → nextIn m c ≡ some g → InRange g
   next-in-range c g e = record {
     some = all-listed (FromKind 1) g (findings (modelIn m) (bitsIn m)) (findings-from (modelIn m) (bitsIn m)) (is-next (modelIn m) (bitsIn m) c g e .is);
     small = next-sized m c g e;
   }
 
-  walk-in-range : (n : ℕ) (c : Cursor) → All InRange (walk (nextIn m) n c)
+  walk-in-range : (n : ℕ) (c : Place) → All InRange (walk (nextIn m) n c)
   walk-in-range zero c = tt
   walk-in-range (suc n) c = pick (nextIn m c) refl (walk-in-range n)
     where
-      pick : (o : Option Finding) → nextIn m c ≡ o → ((d : Cursor) → All InRange (walk (nextIn m) n d))
+      pick : (o : Option Finding) → nextIn m c ≡ o → ((d : Place) → All InRange (walk (nextIn m) n d))
           → All InRange (elim o [ none ↦ [] | some g ↦ g ∷ walk (nextIn m) n (placeOf g) ])
       pick none e ih = tt
       pick (some g) e ih = (next-in-range c g e, ih (placeOf g))
@@ -111,13 +111,13 @@ module _ (m : List ℕ) where
   decodes-taken q none = decodes-refusal done 11 (omega arith)
   decodes-taken q (some p) = decodes-done
 
-  decodes-next : (c : Cursor) (o : Option Finding) → nextIn m c ≡ o → Decodes (foundOf (codeOf (foundAnswer o))) (foundAnswer o)
+  decodes-next : (c : Place) (o : Option Finding) → nextIn m c ≡ o → Decodes (foundOf (codeOf (foundAnswer o))) (foundAnswer o)
   decodes-next c none e = decodes-accepted _ noFinding top-none none-back
   decodes-next c (some g) e =
       let i = next-in-range m c g e in
       decodes-accepted _ (found g (placeOf g)) (top-found g (placeOf g) i) (found-back g i)
 
-  decodes-list : (c : Cursor) (l : List Finding) → All InRange l
+  decodes-list : (c : Place) (l : List Finding) → All InRange l
       → Decodes (findingsPut (map findingCode l) (moved c (map findingOf (map findingCode l)))) (findingsAnswer c l)
   decodes-list c l t =
       decodes-accepted _ (findingsAnswer c l) (top-put l (moved c l)) (ap (λ k. findingsPut (map findingCode l) (moved c k)) (findings-back l t))

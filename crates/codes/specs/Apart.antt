@@ -3,7 +3,7 @@ use mathlib.Core.Path.{_≡_}
 use mathlib.Core.Logic.{_↔_}
 use mathlib.Core.List.{List}
 use Prim.Native.Nat.{ℕ}
-use Rattle.model.specs.Findings.{Cursor}
+use Rattle.model.specs.Findings.{Place}
 use Rattle.model.specs.Calls.{Call, ask, nextFinding, noFinding, written}
 use Rattle.steps.specs.MemoryStep.{memoryStep}
 use Rattle.codes.specs.Codes.{codeOf}
@@ -19,5 +19,5 @@ AnswersApart =
 -- Next finding is answered 0 exactly if there is none: no finding has that number, and no refusal.
 unfoldable pub ZeroIsNone : Type 0
 ZeroIsNone =
-    (m : List ℕ) (c : Cursor)
+    (m : List ℕ) (c : Place)
     → (codeOf (memoryStep m (ask (nextFinding c)) .1) ≡ 0) ↔ (memoryStep m (ask (nextFinding c)) .1 ≡ noFinding)

@@ -1,34 +1,27 @@
--- What one container's words and bits make of a memory: the image of the changed registry.
+-- What a container that comes makes of a memory: the image of the changed registry.
 use mathlib.Core.Path.{_≡_, refl, sym, ap, ap₂, _∙_, subst}
-use mathlib.Core.Bool.{Bool, true, false, _&&_, _||_, cond}
+use mathlib.Core.Bool.{Bool, true, _&&_}
 use mathlib.Core.List.{List, [], _∷_, map}
 use mathlib.Core.Option.{Option, none, some}
-use Prim.Native.Nat.{ℕ, zero, suc, _+_, _-_, _/_, _%_, _<_, _≤_}
-use native.Mathlib.Nat.{sub-zero}
+use Prim.Native.Nat.{ℕ, zero, suc, _<_, _≤_}
 use native.Mathlib.Decide.{ℕ-discrete}
 use native.Mathlib.Omega.{arith}
-use lib.Dec.{eqb}
-use lib.ListN.{length, getD, set, replicate, length-set, length-replicate, getD-replicate}
+use lib.ListN.{length, getD, set, length-set}
 use lib.Seq.{getD-set-same, getD-set-other, set-getD}
 use Rattle.bitrow.specs.Bit.{bitAt}
-use Rattle.bitrow.specs.Set.{nothing}
-use Rattle.bitrow.proofs.Sets.{nothing-at}
 use Rattle.bitrow.proofs.Sets.{at as point}
 use Rattle.block.specs.declared.Labels.{Labels}
-use Rattle.block.specs.Entry.{Container, Policy, Settings, ingress, egress, container}
+use Rattle.block.specs.Entry.{Container, Settings, ingress, egress, container}
 use Rattle.block.specs.Written.{validEntry}
 use Rattle.block.specs.Reading.{word, padded, packed}
 use Rattle.model.specs.Table.{Table, on, at, stands}
-use Rattle.model.specs.Model.{containerSlots, policySlots, Model, Bits, empty, withContainer, matrixBit, selectedBit, allowedBit, computedBits}
-use Rattle.model.specs.Registry.{Registry, setWhere, changeContainer, opened}
-use Rattle.store.specs.Layout.{settingsSize, containersStart, containerWords, policiesStart, policyWords, rowCount, matrixBand, selectedBand, allowedBand, containerStart, selectedRow, allowedRow, Whole}
-use Rattle.store.specs.Contents.{Contents, Holds}
-use Rattle.store.specs.Memory.{slotSet, withSlot, withRow, withColumn, changed, cleared, blank}
-use Rattle.store.proofs.Cases.{by-eqb, by-ltb}
-use Rattle.store.proofs.Carried.{SameContents, holds-as, holds-by, slot-in, slot-out, slot-bits, holds-slot, row-words, row-out, holds-row, holds-cleared}
-use Rattle.store.proofs.Columns.{column-in, column-out, column-words, holds-column}
-use Rattle.formed.specs.Words.{labelWord, partWord, settingsWord, containerWord, policyWord}
-use Rattle.formed.specs.Registry.{modelIn, registryIn, entryWord, storedBit, contentsOf, image, validContainer, Acceptable, wellFormed}
+use Rattle.model.specs.Model.{containerSlots, policySlots, Model, Bits, withContainer, computedBits}
+use Rattle.model.specs.Registry.{Registry, changeContainer}
+use Rattle.store.specs.Layout.{containerWords, containerStart}
+use Rattle.store.specs.Memory.{slotSet}
+use Rattle.store.proofs.Carried.{holds-by}
+use Rattle.formed.specs.Words.{labelWord, partWord, containerWord}
+use Rattle.formed.specs.Registry.{modelIn, registryIn, image, validContainer, Acceptable, wellFormed}
 use Rattle.formed.specs.Labels.{unpacked}
 use Rattle.formed.proofs.Tests.{both}
 use Rattle.formed.proofs.Parts.{labels-few}
@@ -37,12 +30,13 @@ use Rattle.formed.proofs.Back.{registry-image, image-written}
 use Rattle.formed.proofs.Acceptable.{containers-size}
 use Rattle.formed.proofs.Formed.{formed-memory, formed-holds, acceptable-image}
 use Rattle.formed.proofs.LabelLaws.{padded-at, unpacked-back}
-use Rattle.formed.proofs.StoredLaws.{Fit, word-settings, word-container, word-policy, by-part, slot-container, stored-matrix, stored-selected, stored-allowed, by-table}
+use Rattle.formed.proofs.StoredLaws.{Fit}
 use Rattle.sets.specs.Sets.{bits, SetsOf}
 use Rattle.reach.specs.Sides.{lineBit}
 use Rattle.reach.proofs.Model.{line-row, line-column}
 use Rattle.container_bits.specs.ContainerBits.{slotWords, bitsSet, holdingSet}
 use Rattle.container_bits.proofs.HoldingLaws.{holding-at}
+use Rattle.clearing.proofs.SlotLaws.{placed, holds-placed, mixed, BitsOf, holds-bits}
 use Rattle.container_changes.specs.OneContainer.{SaysContainer, refreshed}
 
 -- ---- labels as a count and words
@@ -82,196 +76,6 @@ module _ {s : Settings} {l : Labels} (g : SaysContainer s l) where
 
   slot-word : (k : ℕ) → k < containerWords → getD (slotWords l) k 0 ≡ containerWord (some (unpacked l)) k
   slot-word k h = ap (λ (x : Labels). getD (slotWords x) k 0) (g .exact) ∙ packed-word (unpacked l) k h
-
--- ---- the words of a container's slot
-
-module _ (p : Model) (c : ℕ) (o : Option Container) where
-  -- those of the other slots
-  other-word : (k : ℕ) → (containersStart ≤ k → k < policiesStart → (k - containersStart) / containerWords ≡ c → ⊥) → entryWord p k ≡ entryWord (withContainer p c o) k
-  unfolding withContainer
-  other-word k n =
-      by-part (λ w. entryWord p k ≡ w) (withContainer p c o) k
-      (λ l. word-settings p k l)
-      (λ l h. word-container p k l h ∙ ap (λ (e : Option Container). containerWord e ((k - containersStart) % containerWords))
-      (sym (getD-set-other (p .containers) c ((k - containersStart) / containerWords) o none (λ e. n l h e))))
-      (λ h. word-policy p k h)
-
-  -- those of the slot
-  slot-words : (j : ℕ) → c < containerSlots → length (p .containers) ≡ containerSlots → j < containerWords
-      → containerWord o j ≡ entryWord (withContainer p c o) (containerStart c + j)
-  unfolding withContainer
-  slot-words j hc long h =
-      let e : at (set (p .containers) c o) c ≡ o = getD-set-same (p .containers) c o none (omega arith) in
-      sym (slot-container (withContainer p c o) c j hc h ∙ ap (λ (x : Option Container). containerWord x j) e)
-
--- the registry with this at container slot c, its bits as they were
-abbrev pub placed : Registry → ℕ → Option Container → Registry
-placed r c o = record { model = withContainer (r .model) c o; bits = r .bits }
-
-module _ (r : Registry) (c : ℕ) (hc : c < containerSlots) (long : length (r .model .containers) ≡ containerSlots) (o : Option Container)
-    (ws : List ℕ) (size : containerWords ≤ length ws) (said : (k : ℕ) → k < containerWords → getD ws k 0 ≡ containerWord o k) where
-  abbrev over : Contents
-  over = withSlot (contentsOf r) (containerStart c) containerWords ws
-
-  placed-word : (k : ℕ) → over .words k ≡ entryWord (withContainer (r .model) c o) k
-  unfolding contentsOf
-  placed-word k =
-      by-ltb (λ t. over .words k ≡ entryWord (withContainer (r .model) c o) k) k (containerStart c)
-      (λ l. slot-out (contentsOf r) (containerStart c) containerWords ws k (λ a b. omega arith) ∙ other-word (r .model) c o k (λ a b e. omega arith))
-      (λ l. by-ltb (λ t. over .words k ≡ entryWord (withContainer (r .model) c o) k) k (containerStart c + containerWords)
-      (λ h. let e : containerStart c + (k - containerStart c) ≡ k = omega arith in
-      slot-in (contentsOf r) (containerStart c) containerWords ws k l h ∙ said (k - containerStart c) (omega arith)
-      ∙ slot-words (r .model) c o (k - containerStart c) hc long (omega arith) ∙ ap (entryWord (withContainer (r .model) c o)) e)
-      (λ h. slot-out (contentsOf r) (containerStart c) containerWords ws k (λ a b. omega arith) ∙ other-word (r .model) c o k (λ a b e. omega arith)))
-
-  placed-same : SameContents over (contentsOf (placed r c o))
-  unfolding contentsOf
-  placed-same = record { words = λ k l. placed-word k; bits = λ x y hx hy. ap (λ (f : ℕ → ℕ → Bool). f x y) (slot-bits (contentsOf r) (containerStart c) containerWords ws) }
-
-  pub holds-placed : {m : List ℕ} → Holds m (contentsOf r) → Holds (slotSet m (containerStart c) containerWords ws) (contentsOf (placed r c o))
-  holds-placed h = holds-as (holds-slot h (containerStart c) containerWords ws (omega arith) size) (contentsOf (placed r c o)) placed-same
-
--- ---- a container's bits
-
--- container c's bits those of t, the others as they were
-abbrev pub mixed : ℕ → Bits → Bits → Bits
-mixed c t old = record {
-  matrix = setWhere (λ a b. eqb a c || eqb b c) (t .matrix) (old .matrix);
-  selected = setWhere (λ q b. eqb b c) (t .selected) (old .selected);
-  allowed = setWhere (λ q b. eqb b c) (t .allowed) (old .allowed);
-}
-
--- rows that say t's bits of container c
-pub record BitsOf (c : ℕ) (t : Bits) (across down sel alw : List ℕ) : Type 0 where
-  pub row : (b : ℕ) → b < containerSlots → bitAt across b ≡ t .matrix c b
-  pub column : (a : ℕ) → a < containerSlots → bitAt down a ≡ t .matrix a c
-  pub selected : (q : ℕ) → q < policySlots → bitAt sel q ≡ t .selected q c
-  pub allowed : (q : ℕ) → q < policySlots → bitAt alw q ≡ t .allowed q c
-
--- a bit of row c or column c, or neither
-crossed : (c : ℕ) (f old : ℕ → ℕ → Bool) (x y : ℕ) (u v w : Bool) → u ≡ f x c → v ≡ f c y → w ≡ old x y
-    → cond (eqb y c) u (cond (eqb x c) v w) ≡ setWhere (λ a b. eqb a c || eqb b c) f old x y
-unfolding setWhere
-crossed c f old x y u v w eu ev ew =
-    by-eqb (λ s. cond s u (cond (eqb x c) v w) ≡ cond (eqb x c || s) (f x y) (old x y)) y c
-    (λ e. let d : u ≡ f x y = eu ∙ ap (f x) (sym e) in by-eqb (λ t. u ≡ cond (t || true) (f x y) (old x y)) x c (λ _. d) (λ _. d))
-    (λ _. by-eqb (λ t. cond t v w ≡ cond (t || false) (f x y) (old x y)) x c (λ e. ev ∙ ap (λ (a : ℕ). f a y) (sym e)) (λ _. ew))
-
--- a bit of column c, or another
-crossing : (c : ℕ) (f old : ℕ → ℕ → Bool) (q y : ℕ) (u w : Bool) → u ≡ f q c → w ≡ old q y → cond (eqb y c) u w ≡ setWhere (λ i b. eqb b c) f old q y
-unfolding setWhere
-crossing c f old q y u w eu ew =
-    by-eqb (λ s. cond s u w ≡ cond s (f q y) (old q y)) y c (λ e. eu ∙ ap (f q) (sym e)) (λ _. ew)
-
-module _ (r : Registry) (c : ℕ) (hc : c < containerSlots) (t : Bits) {row column selected allowed : List ℕ} (g : BitsOf c t row column selected allowed) where
-  abbrev new : Bits
-  new = mixed c t (r .bits)
-
-  abbrev k0 : Contents
-  k0 = contentsOf r
-
-  abbrev k1 : Contents
-  k1 = withRow k0 c (bitAt row)
-
-  abbrev k2 : Contents
-  k2 = withColumn k1 matrixBand c (bitAt column)
-
-  abbrev k3 : Contents
-  k3 = withColumn k2 selectedBand c (bitAt selected)
-
-  abbrev k4 : Contents
-  k4 = withColumn k3 allowedBand c (bitAt allowed)
-
-  matrix-new : (x y : ℕ) → x < containerSlots → y < containerSlots → k4 .bits x y ≡ new .matrix x y
-  unfolding changed withRow contentsOf
-  matrix-new x y hx hy =
-      point (column-out k3 allowedBand c (bitAt allowed) x (λ i h e. omega arith)
-      ∙ column-out k2 selectedBand c (bitAt selected) x (λ i h e. omega arith)
-      ∙ column-in k1 matrixBand c (bitAt column) x x (omega arith) hx (omega arith)) y
-      ∙ ap (cond (eqb y c) (bitAt column x)) (by-eqb (λ s. cond s (bitAt row) (k0 .bits x) y ≡ cond s (bitAt row y) (k0 .bits x y)) x c (λ _. refl) (λ _. refl))
-      ∙ crossed c (t .matrix) (r .bits .matrix) x y (bitAt column x) (bitAt row y) (k0 .bits x y) (g .column x hx) (g .row y hy) (point (stored-matrix (r .bits) x hx) y)
-
-  selected-new : (q y : ℕ) → q < policySlots → k4 .bits (selectedRow q) y ≡ new .selected q y
-  unfolding changed contentsOf
-  selected-new q y hq =
-      let x = selectedRow q in
-      point (column-out k3 allowedBand c (bitAt allowed) x (λ i h e. omega arith) ∙ column-in k2 selectedBand c (bitAt selected) x q (omega arith) hq refl) y
-      ∙ ap (cond (eqb y c) (bitAt selected q)) (point (column-out k1 matrixBand c (bitAt column) x (λ i h e. omega arith) ∙ row-out k0 c (bitAt row) x (λ e. omega arith)) y)
-      ∙ crossing c (t .selected) (r .bits .selected) q y (bitAt selected q) (k0 .bits x y) (g .selected q hq) (point (stored-selected (r .bits) q) y)
-
-  allowed-new : (q y : ℕ) → q < policySlots → k4 .bits (allowedRow q) y ≡ new .allowed q y
-  unfolding changed contentsOf
-  allowed-new q y hq =
-      let x = allowedRow q in
-      point (column-in k3 allowedBand c (bitAt allowed) x q (omega arith) hq refl) y
-      ∙ ap (cond (eqb y c) (bitAt allowed q)) (point (column-out k2 selectedBand c (bitAt selected) x (λ i h e. omega arith)
-      ∙ column-out k1 matrixBand c (bitAt column) x (λ i h e. omega arith) ∙ row-out k0 c (bitAt row) x (λ e. omega arith)) y)
-      ∙ crossing c (t .allowed) (r .bits .allowed) q y (bitAt allowed q) (k0 .bits x y) (g .allowed q hq) (point (stored-allowed (r .bits) q) y)
-
-  stored-new : (x y : ℕ) → x < rowCount → y < containerSlots → k4 .bits x y ≡ storedBit new x y
-  stored-new x y hx hy =
-      let q = (x - containerSlots) / 2 in
-      by-table (λ t. k4 .bits x y ≡ t) new x y
-      (λ l. matrix-new x y l hy)
-      (λ l e. let d : x ≡ selectedRow q = omega arith in ap (λ (z : ℕ). k4 .bits z y) d ∙ selected-new q y (omega arith))
-      (λ l e. let d : x ≡ allowedRow q = omega arith in ap (λ (z : ℕ). k4 .bits z y) d ∙ allowed-new q y (omega arith))
-
-  words-new : k4 .words ≡ k0 .words
-  words-new =
-      column-words k3 allowedBand c (bitAt allowed) ∙ column-words k2 selectedBand c (bitAt selected)
-      ∙ column-words k1 matrixBand c (bitAt column) ∙ row-words k0 c (bitAt row)
-
-  abbrev pub renewed : Registry
-  renewed = record { model = r .model; bits = new }
-
-  renewed-same : SameContents k4 (contentsOf renewed)
-  unfolding contentsOf
-  renewed-same = record { words = λ k l. ap (λ (f : ℕ → ℕ). f k) words-new; bits = stored-new }
-
-  pub holds-bits : {m : List ℕ} → Holds m (contentsOf r) → Holds (bitsSet m c row column selected allowed) (contentsOf renewed)
-  unfolding bitsSet
-  holds-bits h =
-      let h1 = holds-row h c row (omega arith) in
-      let h2 = holds-column matrixBand c column h1 (omega arith) (omega arith, omega arith) hc in
-      let h3 = holds-column selectedBand c selected h2 (omega arith) (omega arith, omega arith) hc in
-      holds-as (holds-column allowedBand c allowed h3 (omega arith) (omega arith, omega arith) hc) (contentsOf renewed) renewed-same
-
--- ---- a container that goes: "a bit of an empty place being clear"
-
-on-false : {A : Type 0} (o : Option A) → on (λ x. false) o ≡ false
-on-false none = refl
-on-false (some x) = refl
-
-module _ (p : Model) (c : ℕ) (free : at (p .containers) c ≡ none) (clear : List ℕ) (z : bitAt clear ≡ nothing) where
-  none-at : (j : ℕ) → bitAt clear j ≡ false
-  none-at j = point z j ∙ nothing-at j
-
-  free-bits : BitsOf c (computedBits p) clear clear clear clear
-  unfolding computedBits matrixBit selectedBit allowedBit
-  free-bits = record {
-    row = λ b h. rw free (none-at b);
-    column = λ a h. rw free (none-at a ∙ sym (on-false (at (p .containers) a)));
-    selected = λ q h. rw free (none-at q ∙ sym (on-false (at (p .policies) q)));
-    allowed = λ q h. rw free (none-at q ∙ sym (on-false (at (p .policies) q)));
-  }
-
-module _ (m : List ℕ) (ok : wellFormed m ≡ true) (c : ℕ) (hc : c < containerSlots) where
-  abbrev held : Registry
-  held = registryIn m
-
-  free-slot : at (withContainer (held .model) c none .containers) c ≡ none
-  unfolding withContainer
-  free-slot = let n = containers-size m in getD-set-same (held .model .containers) c none none (omega arith)
-
-  pub taken : (clear : List ℕ) {d e ws : List ℕ} → bitAt clear ≡ nothing → ws ≡ replicate policyWords 0
-      → d ≡ slotSet m (containerStart c) containerWords ws → e ≡ bitsSet d c clear clear clear clear → Fit e → e ≡ image (changeContainer held c none)
-  unfolding changeContainer
-  taken clear {d} {e} {ws} z w v q fit =
-      let size : containerWords ≤ length ws = omega (arith, ap length w, length-replicate {A = ℕ} policyWords 0) in
-      let placing : Holds d (contentsOf (placed held c none)) = holds-by (holds-placed held c hc (containers-size m) none ws size
-      (λ k h. ap (λ (l : List ℕ). getD l k 0) w ∙ getD-replicate policyWords k 0 0 (omega arith)) (formed-holds m ok)) v in
-      image-written (changeContainer held c none) e
-      (holds-by (holds-bits (placed held c none) c hc (computedBits (withContainer (held .model) c none)) (free-bits (withContainer (held .model) c none) c free-slot clear z) placing) q) fit
 
 -- ---- a container's bits by the rules, from the entries as they stand
 
@@ -374,45 +178,3 @@ module _ (p : Model) (c : ℕ) {row column selecting allowing : List ℕ} {sel a
     selected = λ q h. point es q ∙ holding-at policySlots (bits sel) c q h ∙ point (sets .selected .row q h) c;
     allowed = λ q h. point ea q ∙ holding-at policySlots (bits alw) c q h ∙ point (sets .allowed .row q h) c;
   }
-
--- ---- an open
-
-none-free : {A : Type 0} (n i : ℕ) → getD {A = Option A} (replicate n none) i none ≡ none
-none-free zero i = refl
-none-free (suc n) zero = refl
-none-free (suc n) (suc i) = none-free n i
-
-abbrev startWords : Settings → List ℕ
-startWords s = s .userKey ∷ s .systemKey ∷ s .systemValue ∷ 0 ∷ 0 ∷ 0 ∷ 0 ∷ 0 ∷ 0 ∷ 0 ∷ 0 ∷ []
-
-three-at : (s : Settings) (k : ℕ) → k < settingsSize → getD (startWords s) k 0 ≡ settingsWord s k
-three-at s zero h = refl
-three-at s (suc zero) h = refl
-three-at s (suc (suc zero)) h = refl
-three-at s (suc (suc (suc k))) h = absurd (omega arith)
-
-module _ (s : Settings) where
-  abbrev begun : Contents
-  begun = withSlot blank 0 settingsSize (startWords s)
-
-  begun-word : (k : ℕ) → begun .words k ≡ entryWord (empty s) k
-  unfolding empty blank
-  begun-word k =
-      let out : settingsSize ≤ k → begun .words k ≡ 0 = λ l. slot-out blank 0 settingsSize (startWords s) k (λ a b. omega arith) in
-      by-part (λ w. begun .words k ≡ w) (empty s) k
-      (λ l. slot-in blank 0 settingsSize (startWords s) k (omega arith) (omega arith) ∙ ap (λ (i : ℕ). getD (startWords s) i 0) (sub-zero k) ∙ three-at s k l)
-      (λ l h. out l ∙ sym (ap (λ (o : Option Container). containerWord o ((k - containersStart) % containerWords)) (none-free containerSlots ((k - containersStart) / containerWords))))
-      (λ h. out (omega arith) ∙ sym (ap (λ (o : Option Policy). policyWord o ((k - policiesStart) % policyWords)) (none-free policySlots ((k - policiesStart) / policyWords))))
-
-  begun-bit : (x y : ℕ) → begun .bits x y ≡ storedBit (opened s .bits) x y
-  unfolding opened blank
-  begun-bit x y = ap (λ (f : ℕ → ℕ → Bool). f x y) (slot-bits blank 0 settingsSize (startWords s)) ∙ by-table (λ t. false ≡ t) (opened s .bits) x y (λ _. refl) (λ _ _. refl) (λ _ _. refl)
-
-  begun-same : SameContents begun (contentsOf (opened s))
-  unfolding contentsOf opened
-  begun-same = record { words = λ k l. begun-word k; bits = λ x y hx hy. begun-bit x y }
-
-  pub started : (m : List ℕ) → Whole m → {d e : List ℕ} → d ≡ cleared m → e ≡ slotSet d 0 settingsSize (startWords s) → Fit e → e ≡ image (opened s)
-  started m whole {d} {e} v q fit =
-      let h : Holds d blank = holds-by (holds-cleared m whole) v in
-      image-written (opened s) e (holds-by (holds-as (holds-slot h 0 settingsSize (startWords s) (omega arith) (omega arith)) (contentsOf (opened s)) begun-same) q) fit

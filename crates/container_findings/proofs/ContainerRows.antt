@@ -42,6 +42,11 @@ eqb-sym a b = go (ℕ-discrete a b)
     go (yes e) = eq-eqb a b e ∙ sym (eq-eqb b a (sym e))
     go (no n) = ne-eqb a b n ∙ sym (ne-eqb b a (λ e. n (sym e)))
 
+-- a row by the test t of a column, over a set s of containers that is all of them
+pub column-row : (m : List ℕ) (a : ℕ) (wanted : Bool) {s r : ℕ → Bool} {t : Bool} → s ≡ containersStand m → t ≡ part s (columnAs (bitsIn m) a wanted)
+    → r ≡ zeroIf t → r ≡ zeroIf (part (containersStand m) (columnAs (bitsIn m) a wanted))
+column-row m a wanted q p e = e ∙ ap zeroIf (p ∙ ap (λ (x : ℕ → Bool). part x (columnAs (bitsIn m) a wanted)) q)
+
 module _ (m : List ℕ) (a : ℕ) (h : containersStand m a ≡ true) where
   reachable-column : allReachable (modelIn m) (bitsIn m) a ≡ part (containersStand m) (columnAs (bitsIn m) a true)
   unfolding allReachable columnAs

@@ -32,7 +32,7 @@ count-up f (suc n) i =
     (count-up f n (suc i) ∙ size-cong _ _ n (λ k l. ap f (suc-add i k ∙ sym (add-suc i k))))
     ∙ sym (size-low (λ k. f (i + k)) n)
 
-pub count-below : (f : ℕ → Bool) (n : ℕ) → count f (below n) ≡ size f n
+count-below : (f : ℕ → Bool) (n : ℕ) → count f (below n) ≡ size f n
 count-below f n = count-up f n 0 ∙ size-cong _ _ n (λ k l. ap f (zero-add k))
 
 -- the set bits of the n rows from a on, each of w bits

@@ -149,7 +149,7 @@ pub carries-word : (limit : ℕ) (ls : List Label) → validLabels limit ls ≡ 
 carries-word limit ls w k v = carries-fine k v ls (fine-of limit ls w)
 
 -- two lists of valid labels have one label under a key exactly if its words are equal and not 0
-pub shared-word : (n o : ℕ) (x y : List Label) → validLabels n x ≡ true → validLabels o y ≡ true → (k : ℕ)
+shared-word : (n o : ℕ) (x y : List Label) → validLabels n x ≡ true → validLabels o y ≡ true → (k : ℕ)
     → any (λ l. eqb (l .key) k && carries y l) x ≡ (not (eqb (wordUnder k x) 0) && eqb (wordUnder k x) (wordUnder k y))
 shared-word n o x y v w k = shared-fine k y (fine-of o y w) x (fine-of n x v)
 

@@ -3,4 +3,3 @@ pub mod Walk
 mod Inside
 pub mod NextFinding
 mod PutSoFar
-pub mod Whole

@@ -12,10 +12,10 @@ use lib.ListN.{length, take, length-append}
 use lib.Seq.{take-nil}
 use Rattle.bitrow.specs.Set.{under, atLeast, meet}
 use Rattle.model.specs.declared.Finding.{Finding}
-use Rattle.model.specs.Findings.{finding, shown, placeOf, nextAfter, walk, moved}
+use Rattle.model.specs.Findings.{Place, finding, shown, placeOf, nextAfter, walk, moved}
 use Rattle.model.proofs.Next.{Least, NoneAfter, shown-is, shown-none, is-shown}
 use Rattle.formed.specs.Registry.{modelIn, bitsIn}
-use Rattle.findings.specs.Steps.{Place, placeFrom}
+use Rattle.findings.specs.Steps.{placeFrom}
 use Rattle.container_findings.specs.Rows.{shownAt}
 use Rattle.row_listing.specs.Listing.{members, rowFindings}
 use Rattle.findings.proofs.Walk.{SmallPlace, Come, thereIn, sized-there, come-start, come-found, come-skip, come-row, come-kind, come-end}

@@ -10,11 +10,11 @@ use Rattle.bitrow.specs.Set.{under, atLeast, meet}
 use Rattle.buffer.specs.Buffer.{Puts}
 use Rattle.buffer.proofs.BufferLaws.{puts-none, puts-size, puts-as, puts-then}
 use Rattle.model.specs.declared.Finding.{Finding}
-use Rattle.model.specs.Findings.{finding, placeOf, walk, moved, findingCode}
+use Rattle.model.specs.Findings.{Place, finding, placeOf, walk, moved, findingCode}
 use Rattle.findings.specs.declared.Cursor.{Cursor}
 use Rattle.findings.specs.declared.Step.the-variants.{Found, Done}
 use Rattle.row_listing.specs.Listing.{rowFindings}
-use Rattle.findings.specs.Steps.{Place, placeAt, cursorPlace, nextStep}
+use Rattle.findings.specs.Steps.{placeAt, cursorPlace, nextStep}
 use Rattle.container_findings.specs.Rows.{shownAt}
 use Rattle.findings.proofs.Walk.{rank, SmallPlace}
 use Rattle.findings.proofs.NextFinding.{nextIn, ComeIn, reached-start, WalkOver, walked-none, walked-then, walked-row, walked-kind, walked-all}

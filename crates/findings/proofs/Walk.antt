@@ -7,9 +7,8 @@ use native.Mathlib.Omega.{arith}
 use lib.Dec.{eqb, ltb}
 use borrow.Author.Tests.{eq-eqb, ne-eqb, lt-ltb, le-ltb}
 use Rattle.model.specs.declared.Finding.{Finding}
-use Rattle.model.specs.Findings.{finding, findingCode, after, placeOf}
+use Rattle.model.specs.Findings.{Place, finding, findingCode, after, placeOf}
 use Rattle.model.proofs.Next.{Least, NoneAfter}
-use Rattle.findings.specs.Steps.{Place}
 
 -- ---- three numbers as one, where those of a and b are below 65536
 

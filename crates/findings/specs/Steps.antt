@@ -1,16 +1,11 @@
--- The answer to a cursor: the next finding and the cursor moved to it, or none; and a walk.
-use mathlib.Core.List.{List, [], _∷_}
+-- The answer to a cursor: the next finding and the cursor moved to it, or none.
 use mathlib.Core.Option.{Option, none, some}
-use Prim.Native.Nat.{ℕ, zero, suc, _/_, _%_}
+use Prim.Native.Nat.{ℕ, _/_, _%_}
 use Rattle.model.specs.declared.Finding.{Finding}
-use Rattle.model.specs.Findings as model
+use Rattle.model.specs.Findings.{Place}
 use Rattle.findings.specs.declared.Cursor.{Cursor}
 use Rattle.findings.specs.declared.Step.{Step}
 use Rattle.findings.specs.declared.Step.the-variants.{Found, Done}
-
--- a place in the list of findings, as the model has it
-abbrev pub Place : Type 0
-Place = model.Cursor
 
 abbrev pub placeFrom : ℕ → ℕ → ℕ → Place
 placeFrom k a b = record { kind = k; a = a; b = b }
@@ -31,11 +26,6 @@ movedTo g = record { kind = g .kind; a = g .a; b = g .b }
 abbrev pub nextStep : Option Finding → Step
 nextStep none = Done
 nextStep (some g) = Found g (movedTo g)
-
--- "A walk calls next finding from 0 0 0, then from each finding given, until there is none." At most n calls from a cursor.
-abbrev pub follow : (Cursor → Step) → ℕ → Cursor → List Finding
-follow step zero c = []
-follow step (suc n) c = elim (step c) [ Found g d ↦ g ∷ follow step n d | Done ↦ [] ]
 
 -- "The start is 0 0 0."
 abbrev pub startCursor : Cursor

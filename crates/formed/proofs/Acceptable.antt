@@ -8,7 +8,7 @@ use lib.Dec.{ltb}
 use lib.ListN.{length, List·getD-eq-default}
 use borrow.Author.Tests.{ltb-true}
 use Rattle.block.specs.Entry.{container, policy}
-use Rattle.block.specs.Written.{validEntry}
+use Rattle.block.specs.Written.{validSettings, validEntry}
 use Rattle.model.specs.Table.{Table, all, at, stands, below}
 use Rattle.model.specs.Model.{containerSlots, policySlots}
 use Rattle.model.specs.Registry.{Registry}
@@ -51,24 +51,24 @@ acceptable-test r ok =
     (standing-test policySlots containerSlots p c (r .bits .allowed) (ok .allowed))))))
 
 -- tables of their sizes, and no bit beyond them
-pub record Bounded (r : Registry) : Type 0 where
+pub record InTables (r : Registry) : Type 0 where
   pub containers : length (r .model .containers) ≡ containerSlots
   pub policies : length (r .model .policies) ≡ policySlots
   pub matrix : (a b : ℕ) → r .bits .matrix a b ≡ true → (a < containerSlots) × (b < containerSlots)
   pub selected : (q c : ℕ) → r .bits .selected q c ≡ true → (q < policySlots) × (c < containerSlots)
   pub allowed : (q c : ℕ) → r .bits .allowed q c ≡ true → (q < policySlots) × (c < containerSlots)
 
-pub bounded-acceptable : (r : Registry) → Bounded r → acceptable r ≡ true → Acceptable r
+in-tables-acceptable : (r : Registry) → InTables r → acceptable r ≡ true → Acceptable r
 unfolding acceptable
-bounded-acceptable r b e =
+in-tables-acceptable r b e =
     let m = r .model in
     let c = stands (m .containers) in
     let p = stands (m .policies) in
-    let e1 = both _ _ e in
-    let e2 = both _ _ (e1 .1) in
-    let e3 = both _ _ (e2 .1) in
-    let e4 = both _ _ (e3 .1) in
-    let e5 = both _ _ (e4 .1) in
+    let e1 = both (validSettings (m .settings)) _ e in
+    let e2 = both (all (validContainer (m .settings)) (m .containers)) _ (e1 .1) in
+    let e3 = both (all (validPolicy (m .settings)) (m .policies)) _ (e2 .1) in
+    let e4 = both (ofStanding containerSlots containerSlots c c (r .bits .matrix)) _ (e3 .1) in
+    let e5 = both (ofStanding policySlots containerSlots p c (r .bits .selected)) _ (e4 .1) in
     record {
       containers = b .containers;
       policies = b .policies;
@@ -97,9 +97,9 @@ module _ (m : List ℕ) where
       let h = both (ltb x n) (ltb y containerSlots && rowBit m r y) e in
       (ltb-true x n (h .0), ltb-true y containerSlots (both (ltb y containerSlots) (rowBit m r y) (h .1) .0))
 
-  pub registry-bounded : Bounded (registryIn m)
+  pub registry-in-tables : InTables (registryIn m)
   unfolding registryIn bitsIn
-  registry-bounded = record {
+  registry-in-tables = record {
     containers = containers-size;
     policies = policies-size;
     matrix = λ a b. bit-inside containerSlots a a b;
@@ -108,4 +108,4 @@ module _ (m : List ℕ) where
   }
 
   pub test-acceptable : acceptable (registryIn m) ≡ true → Acceptable (registryIn m)
-  test-acceptable e = bounded-acceptable (registryIn m) registry-bounded e
+  test-acceptable e = in-tables-acceptable (registryIn m) registry-in-tables e

@@ -29,7 +29,7 @@ use Rattle.formed.proofs.Slots.{Words, container-back, policy-back, con
 
 -- ---- a slot that stands lies within its table
 
-pub stands-below : {A : Type 0} (t : Table A) (i : ℕ) → stands t i ≡ true → i < length t
+stands-below : {A : Type 0} (t : Table A) (i : ℕ) → stands t i ≡ true → i < length t
 stands-below t i h =
     by-ltb (λ u. i < length t) i (length t) (λ l. l) (λ g. clash (ap (on (λ x. true)) (sym (List·getD-eq-default t none g)) ∙ h))
 

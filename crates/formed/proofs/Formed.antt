@@ -1,5 +1,5 @@
 -- A memory is well formed exactly if it is whole, says an acceptable registry, and is that registry's image.
-use mathlib.Core.Path.{_≡_, refl, sym, ap, ap₂, subst}
+use mathlib.Core.Path.{_≡_, refl, sym, ap, ap₂, subst, _∙_}
 use mathlib.Core.Bool.{true, _&&_}
 use mathlib.Core.Logic.{_↔_}
 use mathlib.Core.List.{List, [], _∷_}
@@ -15,7 +15,7 @@ use Rattle.formed.proofs.Tests.{clash, both}
 use Rattle.formed.proofs.Back.{image-size, image-contents, registry-image}
 use Rattle.formed.proofs.Acceptable.{acceptable-test, test-acceptable}
 
-pub words-same : (a b : List ℕ) → sameWords a b ≡ true → a ≡ b
+words-same : (a b : List ℕ) → sameWords a b ≡ true → a ≡ b
 words-same [] [] e = refl
 words-same [] (y ∷ b) e = clash e
 words-same (x ∷ a) [] e = clash e
@@ -23,11 +23,11 @@ words-same (x ∷ a) (y ∷ b) e =
     let h = both (eqb x y) (sameWords a b) e in
     ap₂ (λ (n : ℕ) (l : List ℕ). n ∷ l) (eqb-true x y (h .0)) (words-same a b (h .1))
 
-pub same-self : (a : List ℕ) → sameWords a a ≡ true
+same-self : (a : List ℕ) → sameWords a a ≡ true
 same-self [] = refl
 same-self (x ∷ a) = ap₂ _&&_ (eq-eqb x x refl) (same-self a)
 
-pub same-words : (a b : List ℕ) → a ≡ b → sameWords a b ≡ true
+same-words : (a b : List ℕ) → a ≡ b → sameWords a b ≡ true
 same-words a b e = subst (λ (l : List ℕ). sameWords a l ≡ true) e (same-self a)
 
 pub record FormedMemory (m : List ℕ) : Type 0 where
@@ -36,10 +36,14 @@ pub record FormedMemory (m : List ℕ) : Type 0 where
   pub canonical : image (registryIn m) ≡ m
 
 module _ (m : List ℕ) where
-  pub formed-memory : wellFormed m ≡ true → FormedMemory m
+  -- the three tests; the laws below cite this, so that a wrong one is met once
+  formed-tests : wellFormed m ≡ (eqb (length m) memoryWords && (acceptable (registryIn m) && sameWords (image (registryIn m)) m))
   unfolding wellFormed
+  formed-tests = refl
+
+  pub formed-memory : wellFormed m ≡ true → FormedMemory m
   formed-memory e =
-      let h = both (eqb (length m) memoryWords) (acceptable (registryIn m) && sameWords (image (registryIn m)) m) e in
+      let h = both (eqb (length m) memoryWords) (acceptable (registryIn m) && sameWords (image (registryIn m)) m) (sym formed-tests ∙ e) in
       let g = both (acceptable (registryIn m)) (sameWords (image (registryIn m)) m) (h .1) in
       record {
         whole = eqb-true (length m) memoryWords (h .0);
@@ -48,9 +52,9 @@ module _ (m : List ℕ) where
       }
 
   pub memory-formed : FormedMemory m → wellFormed m ≡ true
-  unfolding wellFormed
   memory-formed f =
-      ap₂ _&&_ (eq-eqb (length m) memoryWords (f .whole))
+      formed-tests
+      ∙ ap₂ _&&_ (eq-eqb (length m) memoryWords (f .whole))
       (ap₂ _&&_ (acceptable-test (registryIn m) (f .acceptable)) (same-words (image (registryIn m)) m (f .canonical)))
 
   pub formed-exactly : (wellFormed m ≡ true) ↔ FormedMemory m

@@ -41,7 +41,7 @@ label-back l e =
     let v : (l .key * 65536 + l .value) % 65536 ≡ l .value = omega arith in
     λ i. record { key = k i; value = v i }
 
-pub label-small : (l : Label) → inRange l ≡ true → labelWord l < 2 ^ 23
+label-small : (l : Label) → inRange l ≡ true → labelWord l < 2 ^ 23
 unfolding labelWord
 label-small l e = let h = label-bounds l e in omega arith
 

@@ -1,5 +1,5 @@
 -- Slots: what is read from a slot's words, and how large the words are.
-use mathlib.Core.Path.{_≡_, refl, sym, ap, _∙_}
+use mathlib.Core.Path.{_≡_, sym, ap, _∙_}
 use mathlib.Core.Bool.{true, cond}
 use mathlib.Core.List.{List}
 use mathlib.Core.Option.{Option, none, some}
@@ -11,6 +11,7 @@ use borrow.Author.Tests.{lt-ltb, le-ltb, eq-eqb, ne-eqb}
 use Rattle.block.specs.Entry.{Container, Direction, ingress, egress, Policy, Settings, container, policy}
 use Rattle.block.specs.Reader.{directionOf}
 use Rattle.block.specs.Written.{directionNumber, validLabels, validEntry}
+use Rattle.block.proofs.Written.{direction-back}
 use Rattle.store.specs.Layout.{containerWords, policyWords, selectOffset, allowOffset, containerStart, policyStart, wordAt}
 use Rattle.store.proofs.Cases.{by-ltb}
 use Rattle.formed.specs.Words.{partWord, containerWord, policyWord, partIn, containerIn, policyAt, policyIn}
@@ -29,11 +30,6 @@ pub record PolicyParts (p : Policy) : Type 0 where
 pub valid-policy : (s : Settings) (p : Policy) → validEntry s (policy p) ≡ true → PolicyParts p
 unfolding validEntry
 valid-policy s p e = let h = both (validLabels 4 (p .select)) (validLabels 4 (p .allow)) e in record { select = h .0; allow = h .1 }
-
-pub direction-back : (d : Direction) → directionOf (directionNumber d) ≡ d
-unfolding directionOf
-direction-back ingress = refl
-direction-back egress = refl
 
 pub direction-small : (d : Direction) → (1 ≤ directionNumber d) × (directionNumber d ≤ 2)
 direction-small ingress = (omega arith, omega arith)

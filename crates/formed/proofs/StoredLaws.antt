@@ -19,9 +19,6 @@ use Rattle.formed.specs.Registry.{bitWithin, bitsIn, entryWord, storedBi
 abbrev pub Fit : List ℕ → Type 0
 Fit m = (k : ℕ) → wordAt m k < 2 ^ 64
 
-pub ltb-step : (x n : ℕ) → (x ≡ n → ⊥) → ltb x n ≡ ltb x (n + 1)
-ltb-step x n d = by-ltb (λ u. u ≡ ltb x (n + 1)) x n (λ l. sym (lt-ltb x (n + 1) (omega arith))) (λ l. sym (le-ltb x (n + 1) (omega arith)))
-
 -- ---- a word
 
 module _ (m : Model) (k : ℕ) where

@@ -5,24 +5,24 @@ use mathlib.Core.List.{List}
 use Prim.Native.Nat.{ℕ, zero, suc, _+_, _-_, _/_, _%_, _^_, _<_, zero-le}
 use native.Mathlib.Omega.{arith}
 use lib.Dec.{eqb, ltb}
-use lib.ListN.{length}
 use mir.Syntax.{w64}
 use mir.Val.{Fits}
-use borrow.Author.Tests.{lt-ltb, ne-eqb}
+use borrow.Author.Tests.{lt-ltb}
 use Rattle.bitrow.proofs.Tests.{same-test}
 use Rattle.block.specs.Entry.{Settings}
 use Rattle.block.specs.Written.{validSettings}
 use Rattle.model.specs.Table.{at, stands}
 use Rattle.model.specs.Model.{containerSlots, policySlots}
-use Rattle.store.specs.Layout.{settingsSize, containersStart, containerWords, policiesStart, policyWords, memoryWords, rowsStart, rowCount, containerStart, policyStart, selectedRow, allowedRow, Whole, wordAt, rowBit}
+use Rattle.model.proofs.Lists.{denied}
+use Rattle.store.specs.Layout.{settingsSize, containersStart, containerWords, policiesStart, policyWords, rowsStart, rowCount, containerStart, policyStart, selectedRow, allowedRow, Whole, wordAt, rowBit}
 use Rattle.store.specs.Contents.{Holds}
 use Rattle.store.proofs.Cases.{by-ltb}
 use Rattle.formed.specs.Words.{settingsWord, containerWord, policyWord, settingsIn}
-use Rattle.formed.specs.Registry.{modelIn, bitsIn, registryIn, entryWord, storedBit, contentsOf, image, validContainer, validPolicy, acceptable, Acceptable, sameWords, wellFormed}
+use Rattle.formed.specs.Registry.{modelIn, bitsIn, registryIn, entryWord, storedBit, contentsOf, validContainer, validPolicy, acceptable, Acceptable, wellFormed}
 use Rattle.formed.specs.Tests.{containerOk, policyOk, containersOk, policiesOk, rowOk, matrixRowOk, setRowsOk, matrixOk, setsOk, tests}
 use Rattle.formed.proofs.StoredLaws.{by-part, by-table}
 use Rattle.formed.proofs.Back.{image-written}
-use Rattle.formed.proofs.Acceptable.{containers-size, policies-size, registry-bounded}
+use Rattle.formed.proofs.Acceptable.{containers-size, policies-size, registry-in-tables}
 use Rattle.formed.proofs.Formed.{formed-memory, memory-formed}
 use Rattle.formed.proofs.Reading.{container-slot, container-beyond, policy-slot, policy-beyond, container-stands, policy-stands, matrix-in, selected-in, allowed-in, formed-container, formed-policy}
 use Rattle.formed.proofs.Runs.{and-left, and-right, and-passes, between-at, between-all}
@@ -102,7 +102,7 @@ module _ (m : List ℕ) (ok : tests m ≡ true) where
   tests-acceptable : Acceptable (registryIn m)
   unfolding registryIn
   tests-acceptable =
-      let b = registry-bounded m in
+      let b = registry-in-tables m in
       let p = stands (modelIn m .policies) in
       record {
         containers = containers-size m;
@@ -195,8 +195,7 @@ tests-formed m w fit =
 
 -- no memory of another size is well formed
 pub not-whole : (m : List ℕ) → (Whole m → ⊥) → wellFormed m ≡ false
-unfolding wellFormed
-not-whole m n = ap (λ t. t && (acceptable (registryIn m) && sameWords (image (registryIn m)) m)) (ne-eqb (length m) memoryWords n)
+not-whole m h = denied (wellFormed m) (λ e. absurd (h (formed-memory m e .whole)))
 
 -- what the code answers, by what its tests come to
 pub decided : (m : List ℕ) {r : Bool} → Whole m → ((k : ℕ) → Fits w64 (wordAt m k)) → tests m ≡ r → r ≡ wellFormed m

@@ -18,14 +18,17 @@ fn line(case: u64, refusal: u64, value: u64) {
     io::write_all(STDOUT_FILENO, b"\n");
 }
 
-fn yes_or_no(says: bool) -> u64 {
-    if says { 1 } else { 0 }
-}
-
-fn show_opened(case: u64, answer: Outcome) {
+fn show_outcome(case: u64, answer: Outcome) {
     match answer {
         Outcome::Refused(why) => line(case, why as u64, 0),
         Outcome::Done => line(case, 0, 0),
+    }
+}
+
+fn show_reply(case: u64, answer: Reply) {
+    match answer {
+        Reply::Refused(why) => line(case, why as u64, 0),
+        Reply::Says(says) => line(case, 0, says as u64),
     }
 }
 
@@ -37,16 +40,9 @@ fn show_admitted(case: u64, answer: Admitted) {
     }
 }
 
-fn show_removed(case: u64, answer: Outcome) {
-    match answer {
-        Outcome::Refused(why) => line(case, why as u64, 0),
-        Outcome::Done => line(case, 0, 0),
-    }
-}
-
 fn open(memory: &mut [u64], case: u64, made: Shape) {
     let block = samples::sealed(made);
-    show_opened(case, registry::open(memory, &block));
+    show_outcome(case, registry::open(memory, &block));
 }
 
 fn admit(memory: &mut [u64], case: u64, made: Shape) {
@@ -55,28 +51,28 @@ fn admit(memory: &mut [u64], case: u64, made: Shape) {
 }
 
 fn remove_container(memory: &mut [u64], case: u64, slot: usize) {
-    show_removed(
+    show_outcome(
         case,
         registry::remove_container(memory, ContainerSlot(slot)),
     );
 }
 
 fn remove_policy(memory: &mut [u64], case: u64, slot: usize) {
-    show_removed(case, registry::remove_policy(memory, PolicySlot(slot)));
+    show_outcome(case, registry::remove_policy(memory, PolicySlot(slot)));
 }
 
 fn reaches(memory: &[u64], case: u64, a: usize, b: usize) {
-    match registry::reaches(memory, ContainerSlot(a), ContainerSlot(b)) {
-        Reply::Refused(why) => line(case, why as u64, 0),
-        Reply::Says(says) => line(case, 0, yes_or_no(says)),
-    }
+    show_reply(
+        case,
+        registry::reaches(memory, ContainerSlot(a), ContainerSlot(b)),
+    );
 }
 
 fn carries_user(memory: &[u64], case: u64, slot: usize, value: u64) {
-    match registry::carries_user(memory, ContainerSlot(slot), value) {
-        Reply::Refused(why) => line(case, why as u64, 0),
-        Reply::Says(says) => line(case, 0, yes_or_no(says)),
-    }
+    show_reply(
+        case,
+        registry::carries_user(memory, ContainerSlot(slot), value),
+    );
 }
 
 // The counts, a line for each.
@@ -91,20 +87,6 @@ fn count(memory: &[u64], case: u64) {
     }
 }
 
-fn audit(memory: &[u64], case: u64) {
-    match registry::audit(memory) {
-        Reply::Refused(why) => line(case, why as u64, 0),
-        Reply::Says(says) => line(case, 0, yes_or_no(says)),
-    }
-}
-
-fn rebuild(memory: &mut [u64], case: u64) {
-    match registry::rebuild(memory) {
-        Outcome::Refused(why) => line(case, why as u64, 0),
-        Outcome::Done => line(case, 0, 0),
-    }
-}
-
 fn open_other_size(case: u64) {
     let mut memory = [0u64; 5762];
     open(&mut memory, case, samples::settings(1, 2));
@@ -112,7 +94,7 @@ fn open_other_size(case: u64) {
 
 fn open_short(memory: &mut [u64], case: u64) {
     let block = samples::sealed(samples::settings(1, 2));
-    show_opened(case, registry::open(memory, &block[1..]));
+    show_outcome(case, registry::open(memory, &block[1..]));
 }
 
 // Settings: each refusal that their blocks meet, and what stands at the limits.
@@ -195,18 +177,30 @@ fn run_asking(memory: &[u64], case: u64) {
     }
 }
 
+fn freed_container(case: u64) -> usize {
+    match case {
+        51 => 255,
+        52 => 256,
+        _ => 1,
+    }
+}
+
+fn freed_policy(case: u64) -> usize {
+    match case {
+        53 => 127,
+        54 => 128,
+        _ => 2,
+    }
+}
+
 // Slots freed: free ones, ones beyond their table, and a freed one used again.
 fn run_freeing(memory: &mut [u64], case: u64) {
     match case {
-        51 => remove_container(memory, case, 255),
-        52 => remove_container(memory, case, 256),
-        53 => remove_policy(memory, case, 127),
-        54 => remove_policy(memory, case, 128),
-        55 | 56 => remove_container(memory, case, 1),
-        57 | 58 => remove_policy(memory, case, 2),
+        51 | 52 | 55 | 56 => remove_container(memory, case, freed_container(case)),
+        53 | 54 | 57 | 58 => remove_policy(memory, case, freed_policy(case)),
         59 => admit(memory, case, samples::container(1, 1)),
-        61 => rebuild(memory, case),
-        62 => audit(memory, case),
+        61 => show_outcome(case, registry::rebuild(memory)),
+        62 => show_reply(case, registry::audit(memory)),
         _ => count(memory, case),
     }
 }
@@ -221,20 +215,25 @@ fn repeat(memory: &mut [u64], made: Shape, times: u64) {
     }
 }
 
+fn filling_case(case: u64) -> Shape {
+    match case {
+        66 | 67 => samples::container(2, 1),
+        69 | 70 => samples::container(1, 1),
+        _ => samples::policy(2, 1, 1, 1),
+    }
+}
+
 // Full tables: the 257th container and the 129th policy, and freed slots used again.
 fn run_filling(memory: &mut [u64], case: u64) {
     match case {
         64 => open(memory, case, samples::settings(1, 2)),
         65 => repeat(memory, samples::container(2, 1), 255),
-        66 | 67 => admit(memory, case, samples::container(2, 1)),
         68 => remove_container(memory, case, 100),
-        69 | 70 => admit(memory, case, samples::container(1, 1)),
         71 => repeat(memory, samples::policy(1, 0, 1, 2), 127),
-        72 | 73 => admit(memory, case, samples::policy(2, 1, 1, 1)),
         74 => remove_policy(memory, case, 127),
-        76 => admit(memory, case, samples::policy(2, 1, 1, 1)),
-        77 => audit(memory, case),
-        _ => count(memory, case),
+        75 | 78 => count(memory, case),
+        77 => show_reply(case, registry::audit(memory)),
+        _ => admit(memory, case, filling_case(case)),
     }
 }
 

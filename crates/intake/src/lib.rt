@@ -3,28 +3,13 @@ ghost use Prim.Native.Nat.{_+_, _≤_, _<_};
 ghost use lib.ListN.{length};
 ghost use Rattle.steps.specs.MemoryStep.{memoryStep};
 ghost use Rattle.model.specs.Calls.{openWith, change, admit};
-ghost use Rattle.intake.specs.Told.{Tells};
-ghost use Rattle.intake.specs.Blocks.{Takes, opens, admits, taken, endOf};
+ghost use Rattle.sheets.specs.Told.{Tells};
+ghost use Rattle.sheets.specs.Blocks.{Takes, opens, admits, taken, endOf};
 use block::numbers;
-use findings::Cursor;
 use registry::Admitted;
 use registry::Outcome;
-
-pub enum State {
-    // Blocks come: how many were taken, and how many bytes of the next one the buffer of the started block holds.
-    Taking(u64, usize),
-    // The input has ended.
-    Counting,
-    // The findings after the cursor are still to come.
-    Listing(Cursor),
-    Finished,
-}
-
-// The state after some text, and how many bytes of it were put.
-pub struct Told {
-    pub state: State,
-    pub put: usize,
-}
+use sheets::State;
+use sheets::Told;
 
 // Opens by a block, and puts the refusal, where it is one.
 fn open_by(memory: &mut [u64], block: &[u8], out: &mut [u8]) -> Told

@@ -8,10 +8,11 @@ use lib.Dec.{leb}
 use Rattle.block.specs.declared.Fault.{Fault}
 use Rattle.block.specs.declared.Fault.the-variants.{Nowhere}
 use Rattle.block.specs.declared.Tested.{Tested}
+use Rattle.block.specs.declared.Tested.the-variants.{Passed}
 use Rattle.layouts.specs.declared.Body.{Body}
 use Rattle.block.specs.Bytes.{byteAt}
 use Rattle.block.specs.Fault.{unless, orElse, firstIn}
-use Rattle.block.specs.Refusal.{Check, check, firstRefusal}
+use Rattle.block.specs.Refusal.{Check, check, refuse, firstRefusal}
 use Rattle.block.specs.Reader.{Run, Range, within, rangeFault, orderFault, zeroFault, rangeFaults, orderFaults, unusedFault, containerLayout, policyLayout}
 use Rattle.layouts.specs.Steps.{runsOf, unusedOf, bodyChecks, layoutChecks}
 use Rattle.block.proofs.Faults.{faults-done}
@@ -73,6 +74,13 @@ policyBody m n =
 -- what layout_test answers of a body
 abbrev answered : List ℕ → Fault → Body → Tested
 answered b f y = firstRefusal (check 6 f ∷ bodyChecks b (runsOf y) (unusedOf y))
+
+-- the refusals nest as the checks do
+pub body-answered : (b : List ℕ) (f range order unused : Fault) (y : Body) (s t r : Tested) → f ≡ Nowhere → range ≡ rangeFaults b (runsOf y)
+    → order ≡ orderFaults b (runsOf y) → unused ≡ unusedFault b (unusedOf y) → s ≡ refuse 9 unused Passed → t ≡ refuse 8 order s → r ≡ refuse 7 range t
+    → r ≡ answered b f y
+unfolding bodyChecks
+body-answered b f range order unused y s t r l h k u p q e = simp l (cc)
 
 pub container-layout : (b : List ℕ) (f : Fault) (n : ℕ) → f ≡ unless (leb (byteAt b 1) 8) 1 → n ≡ byteAt b 1 → answered b f (containerBody n) ≡ firstRefusal (layoutChecks b (containerLayout b))
 unfolding layoutChecks containerLayout runsOf unusedOf

@@ -3,17 +3,21 @@ use mathlib.Core.Path.{_≡_, refl, sym, ap, ap₂, _∙_}
 use mathlib.Core.Bool.{true, false}
 use mathlib.Core.List.{List, [], _∷_, _++_, map}
 use mathlib.Core.Option.{none, some}
-use Prim.Native.Nat.{ℕ}
+use Prim.Native.Nat.{ℕ, _≤_}
+use native.Mathlib.Omega.{arith}
 use lib.Dec.{eqb}
-use lib.ListN.{length, replicate}
+use borrow.Author.Tests.{eq-eqb}
+use lib.ListN.{length, replicate, drop}
 use Rattle.block.specs.Entry.{Label, Direction, ingress, egress, Settings, Entry, container, policy}
 use Rattle.block.specs.declared.Refusal.{Refusal}
-use Rattle.block.specs.Refusal.{Read, refused, accepted}
+use Rattle.block.specs.declared.Tested.the-variants.{Refused}
+use Rattle.block.specs.Refusal.{Check, firstRefusal, Read, refused, accepted, readUnless}
 use Rattle.block.specs.Bytes
 use Rattle.block.specs.Reader
-use Rattle.block.specs.Reader.{readSettings, readEntry, settingsSaid}
+use Rattle.block.specs.Reader.{entrySaid, settingsSaid, frame, settingsChecks, entryChecks, readSettings, readEntry}
 use Rattle.block.specs.Written
-use Rattle.block.specs.Written.{blockOf, settingsBlock, validEntry, validSettings}
+use Rattle.block.specs.Written.{sealed, blockOf, settingsBlock, validEntry, validSettings}
+use Rattle.block.proofs.Sealed.{sealed-length, sealed-checked}
 use Rattle.block.proofs.Accepted.{settings-accepted}
 use Rattle.block.proofs.Written.{written-read, settings-read}
 use Rattle.model.specs.Rules
@@ -21,7 +25,7 @@ use Rattle.model.specs.Model
 use Rattle.model.specs.Model.{Model, empty, matrixBit}
 use Rattle.model.specs.Findings
 use Rattle.model.specs.Findings.{containersOf, policiesOf, pairsIn}
-use Rattle.model.specs.Stars.{label, policyTo}
+use Rattle.stars.specs.Stars.{label, policyTo}
 use Rattle.model.specs.Calls.{askReaches, askUser, nextFinding, listFindings, counts, audit}
 use Rattle.model.specs.Calls.{Call, openWith, change, admit, removeContainer, removePolicy, rebuild, ask}
 use Rattle.model.specs.Calls.{Answer, refusal, says, counted}
@@ -94,6 +98,19 @@ module _ (e : Entry) (valid : (s : Settings) → validEntry s e ≡ true) where
 abbrev at : ℕ → ℕ → Refusal
 at n p = record { number = n; position = p }
 
+-- a sealed block passes 3 and 4, so what refuses it is one of the checks after them
+module _ (front : List ℕ) (h : length front ≤ 510) where
+  framed : {A : Type 0} (cs : List Check) (x : A) (r : Refusal) → firstRefusal cs ≡ Refused r → readUnless (firstRefusal (frame (sealed front) ++ cs)) x ≡ refused r
+  framed cs x r e = rw (eq-eqb _ 512 (sealed-length front h), eq-eqb _ _ (sealed-checked front h), e)
+
+  entry-refused : (s : Settings) (r : Refusal) → firstRefusal (drop 2 (entryChecks s (sealed front))) ≡ Refused r → readEntry s (sealed front) ≡ refused r
+  unfolding Reader.readEntry Reader.entryChecks
+  entry-refused s r e = framed (drop 2 (entryChecks s (sealed front))) (entrySaid (sealed front)) r e
+
+  settings-refused : (r : Refusal) → firstRefusal (drop 2 (settingsChecks (sealed front))) ≡ Refused r → readSettings (sealed front) ≡ refused r
+  unfolding Reader.readSettings Reader.settingsChecks
+  settings-refused r e = framed (drop 2 (settingsChecks (sealed front))) (settingsSaid (sealed front)) r e
+
 -- each refused block: its refusal, and the position at fault
 record Refusals (s : Settings) : Type 0 where
   short : readEntry s shortBlock ≡ refused (at 3 0)
@@ -105,13 +122,28 @@ record Refusals (s : Settings) : Type 0 where
   unused : readEntry s unusedBlock ≡ refused (at 9 3)
   userKey : readSettings keyBlock ≡ refused (at 7 1)
 
+short-refused : (s : Settings) → readEntry s shortBlock ≡ refused (at 3 0)
+unfolding shortBlock Reader.readEntry Reader.entryChecks
+short-refused s = refl
+
+unchecked-refused : (s : Settings) → readEntry s uncheckedBlock ≡ refused (at 4 510)
+unfolding uncheckedBlock Bytes.checksum Bytes.weighted Reader.readEntry Reader.entryChecks
+unchecked-refused s = refl
+
 block-refusals : (s : Settings) → Refusals s
-unfolding shortBlock uncheckedBlock kindBlock nineBlock valueBlock orderBlock unusedBlock keyBlock
-    Bytes.checksum Bytes.weighted Written.sealed
-    Reader.readEntry Reader.entryChecks Reader.entrySaid Reader.policySaid Reader.directionOf Reader.layoutOf
-    Reader.containerLayout Reader.policyLayout Reader.zeroFault Reader.labelAt Reader.orderFault Reader.riseFault Reader.rangeFault
-    Reader.labelFault Reader.within Reader.readSettings Reader.settingsChecks Reader.settingsFault Reader.settingsSaid
-block-refusals s = record { short = refl; unchecked = refl; kind = refl; nine = refl; value = refl; order = refl; unused = refl; userKey = refl }
+unfolding kindBlock nineBlock valueBlock orderBlock unusedBlock keyBlock
+    Written.sealed Reader.entryChecks Reader.layoutOf Reader.containerLayout Reader.policyLayout Reader.zeroFault Reader.orderFault
+    Reader.riseFault Reader.rangeFault Reader.labelFault Reader.within Reader.settingsChecks Reader.settingsFault
+block-refusals s = record {
+  short = short-refused s;
+  unchecked = unchecked-refused s;
+  kind = entry-refused (83 ∷ 1 ∷ []) (omega arith) s (at 5 0) refl;
+  nine = entry-refused (67 ∷ 9 ∷ []) (omega arith) s (at 6 1) refl;
+  value = entry-refused (67 ∷ 2 ∷ 0 ∷ 0 ∷ 0 ∷ 3 ∷ 0 ∷ 1 ∷ 0 ∷ 1 ∷ 0 ∷ 0 ∷ []) (omega arith) s (at 7 10) refl;
+  order = entry-refused (80 ∷ 2 ∷ 0 ∷ 2 ∷ 0 ∷ 3 ∷ 0 ∷ 1 ∷ 0 ∷ 3 ∷ 0 ∷ 2 ∷ []) (omega arith) s (at 8 8) refl;
+  unused = entry-refused (67 ∷ 0 ∷ 0 ∷ 1 ∷ []) (omega arith) s (at 9 3) refl;
+  userKey = settings-refused (83 ∷ 65 ∷ []) (omega arith) (at 7 1) refl;
+}
 
 -- ---- the list, with what its blocks are read as
 

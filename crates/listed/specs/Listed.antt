@@ -9,9 +9,9 @@ use lib.ListN.{length, replicate, length-replicate}
 use borrow.Author.Tests.{eqb-false}
 use Rattle.block.specs.Entry.{Label, Direction, ingress, egress, Settings, Entry, container, policy}
 use Rattle.block.specs.Written.{sealed, blockOf, settingsBlock}
-use Rattle.model.specs.Findings.{Cursor}
+use Rattle.model.specs.Findings.{Place}
 use Rattle.model.specs.Findings.{finding, start}
-use Rattle.model.specs.Stars.{label, policyTo}
+use Rattle.stars.specs.Stars.{label, policyTo}
 use Rattle.model.specs.Calls.{askReaches, askUser, nextFinding, listFindings, counts, audit}
 use Rattle.model.specs.Calls.{Call, openWith, change, admit, removeContainer, removePolicy, rebuild, ask}
 use Rattle.model.specs.Calls.{Answer, refusal, done, containerAt, policyAt, says, found, noFinding, findingsPut, counted}
@@ -85,7 +85,7 @@ unusedBlock = sealed (67 ∷ 0 ∷ 0 ∷ 1 ∷ [])
 unfoldable pub keyBlock : List ℕ
 keyBlock = sealed (83 ∷ 65 ∷ [])
 
-abbrev pub cursor : ℕ → ℕ → ℕ → Cursor
+abbrev pub cursor : ℕ → ℕ → ℕ → Place
 cursor k a b = record { kind = k; a = a; b = b }
 
 abbrev pub meets : ℕ → ℕ → ℕ → Answer

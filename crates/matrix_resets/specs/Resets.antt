@@ -1,8 +1,9 @@
 -- The bits of the matrix that a policy's coming or going sets by the rules, row by row.
 use mathlib.Core.Path.{_≡_}
-use mathlib.Core.Bool.{Bool, _&&_, cond}
+use mathlib.Core.Bool.{Bool, true, _&&_, cond}
 use mathlib.Core.List.{List}
 use Prim.Native.Nat.{ℕ}
+use Rattle.bitrow.specs.Bit.{bitAt}
 use Rattle.block.specs.Entry.{Policy}
 use Rattle.block.specs.Written.{directionNumber}
 use Rattle.model.specs.Table.{on, at}
@@ -12,6 +13,8 @@ use Rattle.model.specs.Registry.{Registry, setWhere, touched}
 use Rattle.store.specs.Contents.{Contents, Holds}
 use Rattle.store.specs.Memory.{withRow}
 use Rattle.formed.specs.Registry.{modelIn, registryIn, image}
+use Rattle.matrix_rows.specs.declared.Gathered.{Gathered}
+use Rattle.matrix_rows.specs.Lines.{LineFrom}
 
 -- the named bits of the matrix by the rules
 unfoldable pub resetWhere : Registry → (ℕ → ℕ → Bool) → Registry
@@ -35,6 +38,10 @@ masked mask rule old y = cond (mask y) (rule y) (old y)
 -- m′ is m but for row a, whose bits of the mask are made the rule's
 pub record RowReset (m m′ : List ℕ) (a : ℕ) (mask rule : ℕ → Bool) : Type 0 where
   pub holds : (c : Contents) → Holds m c → Holds m′ (withRow c a (masked mask rule (c .bits a)))
+
+-- what is read from g and the lines for one of some is its row of the matrix of m
+pub record RowsFrom (m : Model) (some : ℕ → Bool) (g : Gathered) (outs backs : List (List ℕ)) : Type 0 where
+  pub row : {a : ℕ} {r : List ℕ} → LineFrom g outs backs a r → some a ≡ true → bitAt r ≡ matrixBit m a
 
 -- the containers that p selects
 unfoldable pub selection : Model → Policy → ℕ → Bool

@@ -4,10 +4,13 @@ ghost use mathlib.Core.Bool.{true};
 ghost use Prim.Native.Nat.{_<_};
 ghost use Rattle.bitrow.specs.Bit.{bitAt};
 ghost use Rattle.model.specs.Table.{stands};
+ghost use Rattle.model.specs.Model.{containerSlots};
 ghost use Rattle.store.specs.Layout.{Whole};
 ghost use Rattle.formed.specs.Registry.{modelIn, registryIn, image, wellFormed};
+ghost use Rattle.sets.specs.Sets.{Empty};
 ghost use Rattle.policy_entries.specs.PolicyEntry.{SetsStored};
-ghost use Rattle.matrix_resets.specs.Resets.{RowReset, product, resetWhere, ResetsFor};
+ghost use Rattle.matrix_resets.specs.Resets.{RowReset, RowsFrom, product, resetWhere, ResetsFor};
+use matrix_rows::Gathered;
 
 // The bits of row a that are in the columns, set to those of a row by the rules.
 fn reset_row(memory: &mut [u64], a: usize, columns: [u64; 4], ruled: [u64; 4])
@@ -19,11 +22,18 @@ fn reset_row(memory: &mut [u64], a: usize, columns: [u64; 4], ruled: [u64; 4])
     store::set_row(memory, a, row);
 }
 
-// The bits of the matrix in these rows and columns, set by the rules from the entries. Policy q's sets are taken as they are stored.
-fn reset_rows(memory: &mut [u64], q: usize, rows: [u64; 4], columns: [u64; 4], standing: [u64; 4])
+// What these rows are read from by the rules. Policy q's sets are taken as they are stored; the lines are empty before.
+fn gather_rows(
+    memory: &[u64],
+    q: usize,
+    rows: [u64; 4],
+    standing: [u64; 4],
+    outs: &mut [[u64; 4]; 256],
+    backs: &mut [[u64; 4]; 256],
+) -> Gathered
     requires { ⌜ (wellFormed (now memory) ≡ true) × (bitAt standing ≡ stands (modelIn (now memory) .containers)) ⌝ }
-    requires { ⌜ (q < 128) × SetsStored (now memory) q ⌝ }
-    ensures { λ u. ⌜ now (memory .exit) ≡ image (resetWhere (registryIn (now (memory .entry))) (product (bitAt rows) (bitAt columns))) ⌝ }
+    requires { ⌜ (q < 128) × SetsStored (now memory) q × Empty containerSlots (now outs) × Empty containerSlots (now backs) ⌝ }
+    ensures { λ r. ⌜ RowsFrom (modelIn (now (memory .entry))) (bitAt rows) r (now (outs .exit)) (now (backs .exit)) ⌝ }
 {
     let mut selected = [[0u64; 4]; 128];
     let mut allowed = [[0u64; 4]; 128];
@@ -31,18 +41,27 @@ fn reset_rows(memory: &mut [u64], q: usize, rows: [u64; 4], columns: [u64; 4], s
     let allows = store::row_at(memory, store::CONTAINER_SLOTS + 2 * q + 1);
     selected[q] = selects;
     allowed[q] = allows;
-    let mut outs = [[0u64; 4]; 256];
-    let mut backs = [[0u64; 4]; 256];
-    let gathered = matrix_rows::gather(
+    matrix_rows::gather(
         memory,
         standing,
         q,
         rows,
         &mut selected,
         &mut allowed,
-        &mut outs,
-        &mut backs,
-    );
+        outs,
+        backs,
+    )
+}
+
+// The bits of the matrix in these rows and columns, set by the rules from the entries. Policy q's sets are taken as they are stored.
+fn reset_rows(memory: &mut [u64], q: usize, rows: [u64; 4], columns: [u64; 4], standing: [u64; 4])
+    requires { ⌜ (wellFormed (now memory) ≡ true) × (bitAt standing ≡ stands (modelIn (now memory) .containers)) ⌝ }
+    requires { ⌜ (q < 128) × SetsStored (now memory) q ⌝ }
+    ensures { λ u. ⌜ now (memory .exit) ≡ image (resetWhere (registryIn (now (memory .entry))) (product (bitAt rows) (bitAt columns))) ⌝ }
+{
+    let mut outs = [[0u64; 4]; 256];
+    let mut backs = [[0u64; 4]; 256];
+    let gathered = gather_rows(memory, q, rows, standing, &mut outs, &mut backs);
     let mut a = 0;
     while a < 256 {
         let row = a;

@@ -5,7 +5,6 @@ use mathlib.Core.Logic.{_↔_}
 use mathlib.Core.List.{List, [], _∷_, _++_}
 use mathlib.Core.Option.{Option, none, some}
 use Prim.Native.Nat.{ℕ}
-use native.Mathlib.Omega.{arith}
 use lib.Dec.{ltb}
 use lib.ListN.{length, length-set, length-replicate}
 use borrow.Author.Tests.{ltb-true}
@@ -214,20 +213,6 @@ pub run-agrees : (m : Model) → Sized m → (calls : List Call) → run registr
 run-agrees m sized [] = refl
 run-agrees m sized (call ∷ calls) =
     rw (step-agrees m sized call, run-agrees (modelStep m call .0) (sized-step m sized call) calls)
-
--- an accepted open gives the computed registry of no entries, whatever was there
-pub accepted-open : (r : Registry) (b : List ℕ) (s : Settings) → readSettings b ≡ accepted s → registryStep r (openWith b) ≡ (computed (empty s), done)
-unfolding registryStep refusals readSettings acceptedStep unlessRefused
-accepted-open r b s = pick (firstRefusal (settingsChecks b))
-  where
-    pick : (o : Tested) → readUnless o (settingsSaid b) ≡ accepted s → unlessRefused r (openWith b) o ≡ (computed (empty s), done)
-    pick Passed e = let h : settingsSaid b ≡ s = cc in rw h (ap (λ v. (v, done)) (opened-computed s))
-    pick (Refused f) e = let z : _≡_ {A = ℕ} 0 1 = cc in absurd (omega arith)
-
--- The same from an accepted open, on any registry.
-pub opened-agrees : (r : Registry) (b : List ℕ) (s : Settings) → readSettings b ≡ accepted s → (calls : List Call)
-    → run registryStep (registryStep r (openWith b) .0) calls ≡ asComputed (run modelStep (empty s) calls)
-opened-agrees r b s e calls = rw (accepted-open r b s e) (run-agrees (empty s) (sized-empty s) calls)
 
 says-same : (t u : Bool) → says t ≡ says u → t ≡ u
 says-same t u e = cc

@@ -8,7 +8,7 @@ use native.Mathlib.Omega.{arith}
 use lib.Dec.{eqb, ltb}
 use borrow.Author.Tests.{ltb-true, ltb-false, eqb-true, lt-ltb, le-ltb, eq-eqb, ne-eqb}
 use Rattle.model.specs.declared.Finding.{Finding}
-use Rattle.model.specs.Findings.{Cursor}
+use Rattle.model.specs.Findings.{Place}
 use Rattle.model.specs.Table.{any, count}
 use Rattle.model.specs.Model.{Model, Bits}
 use Rattle.model.specs.Findings.{finding, Kind, kinds, rowOf, ofKind, ofKinds, findings, shown, placeOf, after, needless, irrelevance}
@@ -130,11 +130,11 @@ lex-equal m n s t h k =
     let e : m ≡ n = omega (arith, ltb-false m n (p .0), ltb-false n m (q .0)) in
     (e, rw (eq-eqb m n e) at (p .1), rw (eq-eqb n m (sym e)) at (q .1))
 
-after-lex : (c : Cursor) (g : Finding) → after c g ≡ lex (c .kind) (g .kind) (lex (c .a) (g .a) (ltb (c .b) (g .b)))
+after-lex : (c : Place) (g : Finding) → after c g ≡ lex (c .kind) (g .kind) (lex (c .a) (g .a) (ltb (c .b) (g .b)))
 unfolding after lex
 after-lex c g = refl
 
-pub after-kind : (c : Cursor) (g : Finding) → c .kind < g .kind → after c g ≡ true
+pub after-kind : (c : Place) (g : Finding) → c .kind < g .kind → after c g ≡ true
 after-kind c g h = rw after-lex (lex-lt (c .kind) (g .kind) _ h)
 
 pub after-turn : (f g : Finding) → after (placeOf f) g ≡ true → after (placeOf g) f ≡ false
@@ -229,7 +229,7 @@ unfolding findings
 findings-from m s = kinds-from 1 1 (kinds m s) (le-refl 1)
 
 -- In a rising list each finding stands once
-pub rising-once : (g : Finding) (l : List Finding) → Rising l → count (same g) l ≡ cond (among g l) 1 0
+rising-once : (g : Finding) (l : List Finding) → Rising l → count (same g) l ≡ cond (among g l) 1 0
 rising-once g [] s = refl
 rising-once g (x ∷ l) s = pick (same g x) refl (rising-once g l (s .1))
   where

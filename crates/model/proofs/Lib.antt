@@ -3,6 +3,7 @@ pub mod Lists
 pub mod Tables
 pub mod Lowest
 pub mod Findings
+pub mod Shadow
 pub mod Next
 pub mod Pairs
 pub mod Consistent
@@ -10,4 +11,3 @@ pub mod Unchanged
 pub mod Kept
 pub mod Agreement
 pub mod Refused
-pub mod Stars

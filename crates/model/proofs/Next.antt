@@ -1,13 +1,13 @@
--- The list rises: so the first finding after a cursor is the least of those, and a walk from 0 0 0 meets each finding once.
-use mathlib.Core.Path.{_≡_, refl, ap, fun-ext, subst}
+-- The list rises: so the first finding after a place is the least of those, and a walk from 0 0 0 meets each finding once.
+use mathlib.Core.Path.{_≡_, refl, ap, _∙_, fun-ext, subst}
 use mathlib.Core.Bool.{false≢true, Bool, true, false, cond}
 use mathlib.Core.List.{List, [], _∷_}
 use mathlib.Core.Option.{Option, none, some}
 use Prim.Native.Nat.{ℕ, zero, suc, _≤_}
-use native.Mathlib.Nat.{le-of-suc-le-suc, not-suc-le-zero}
-use lib.ListN.{length}
+use lib.ListN.{length, take}
+use lib.Seq.{take-all}
 use Rattle.model.specs.declared.Finding.{Finding}
-use Rattle.model.specs.Findings.{Cursor}
+use Rattle.model.specs.Findings.{Place}
 use Rattle.model.specs.Table.{first}
 use Rattle.model.specs.Model.{Model, Bits}
 use Rattle.model.specs.Findings.{findings, shown, placeOf, after, nextAfter, start, walk}
@@ -15,22 +15,22 @@ use Rattle.model.proofs.Lists.{either, or-right, All, all-map}
 use Rattle.model.proofs.Findings.{among, same, same-eq, same-refl, all-listed, findings-shown}
 use Rattle.model.proofs.Findings.{After, Rising, FromKind, after-turn, after-self, after-equal, after-kind, findings-rising, findings-from}
 
--- g is there, after the cursor, and none of those there stands between
-pub record Least (there : Finding → Bool) (c : Cursor) (g : Finding) : Type 0 where
+-- g is there, after the place, and none of those there stands between
+pub record Least (there : Finding → Bool) (c : Place) (g : Finding) : Type 0 where
   pub is : there g ≡ true
   pub later : after c g ≡ true
   pub least : (h : Finding) → there h ≡ true → after c h ≡ true → after (placeOf h) g ≡ false
 
--- none of those there stands after the cursor
-abbrev pub NoneAfter : (Finding → Bool) → Cursor → Type 0
+-- none of those there stands after the place
+abbrev pub NoneAfter : (Finding → Bool) → Place → Type 0
 NoneAfter there c = (h : Finding) → there h ≡ true → after c h ≡ false
 
--- the answer is the first of those there after the cursor, or says that there is none
-abbrev pub Nearest : (Finding → Bool) → Cursor → Option Finding → Type 0
+-- the answer is the first of those there after the place, or says that there is none
+abbrev pub Nearest : (Finding → Bool) → Place → Option Finding → Type 0
 Nearest there c none = NoneAfter there c
 Nearest there c (some g) = Least there c g
 
-module _ (there : Finding → Bool) (c : Cursor) where
+module _ (there : Finding → Bool) (c : Place) where
   -- one answer only
   pub nearest-one : (o p : Option Finding) → Nearest there c o → Nearest there c p → o ≡ p
   nearest-one none none s t = refl
@@ -42,8 +42,8 @@ module _ (there : Finding → Bool) (c : Cursor) where
 abbrev pub inList : List Finding → Finding → Bool
 inList l g = among g l
 
-module _ (c : Cursor) (x : Finding) (l : List Finding) where
-  -- one more at the head, not after the cursor
+module _ (c : Place) (x : Finding) (l : List Finding) where
+  -- one more at the head, not after the place
   past : after c x ≡ false → (o : Option Finding) → Nearest (inList l) c o → Nearest (inList (x ∷ l)) c o
   past d none s = λ h. either (same h x) (among h l) (λ e. cc (same-eq h x e)) (s h)
   past d (some g) s = record {
@@ -52,7 +52,7 @@ module _ (c : Cursor) (x : Finding) (l : List Finding) where
     least = λ h. either (same h x) (among h l) (λ e a. cc (same-eq h x e)) (s .least h);
   }
 
-  -- the head is after the cursor
+  -- the head is after the place
   here : Rising (x ∷ l) → after c x ≡ true → Least (inList (x ∷ l)) c x
   here s d = record {
     is = rw (same-refl x);
@@ -60,7 +60,7 @@ module _ (c : Cursor) (x : Finding) (l : List Finding) where
     least = λ h. either (same h x) (among h l) (λ e a. cc (same-eq h x e, after-self x)) (λ i a. after-turn x h (all-listed (After x) h l (s .0) i));
   }
 
-first-nearest : (c : Cursor) (l : List Finding) → Rising l → Nearest (inList l) c (first (after c) l)
+first-nearest : (c : Place) (l : List Finding) → Rising l → Nearest (inList l) c (first (after c) l)
 first-nearest c [] s = λ h i. absurd (false≢true i)
 first-nearest c (x ∷ l) s = pick (after c x) refl (first-nearest c l (s .1))
   where
@@ -70,23 +70,14 @@ first-nearest c (x ∷ l) s = pick (after c x) refl (first-nearest c l (s .1))
 
 -- ---- the next finding: "the first finding after them in the order, or says there is none"
 
-module _ (m : Model) (s : Bits) (c : Cursor) where
+module _ (m : Model) (s : Bits) (c : Place) where
   -- of those listed
   pub next-listed : Nearest (inList (findings m s)) c (nextAfter m s c)
   unfolding nextAfter
   next-listed = first-nearest c (findings m s) (findings-rising m s)
 
-  pub next-is : (g : Finding) → Least (inList (findings m s)) c g → nextAfter m s c ≡ some g
-  next-is g h = nearest-one (inList (findings m s)) c (nextAfter m s c) (some g) next-listed h
-
-  pub next-none : NoneAfter (inList (findings m s)) c → nextAfter m s c ≡ none
-  next-none h = nearest-one (inList (findings m s)) c (nextAfter m s c) none next-listed h
-
   pub is-next : (g : Finding) → nextAfter m s c ≡ some g → Least (inList (findings m s)) c g
   is-next g e = subst (Nearest (inList (findings m s)) c) e next-listed
-
-  pub none-next : nextAfter m s c ≡ none → NoneAfter (inList (findings m s)) c
-  none-next e = subst (Nearest (inList (findings m s)) c) e next-listed
 
   -- of those shown
   pub next-shown : Nearest (shown m s) c (nextAfter m s c)
@@ -101,41 +92,39 @@ module _ (m : Model) (s : Bits) (c : Cursor) where
   pub is-shown : (g : Finding) → nextAfter m s c ≡ some g → Least (shown m s) c g
   is-shown g e = subst (Nearest (shown m s) c) e next-shown
 
-  pub none-shown : nextAfter m s c ≡ none → NoneAfter (shown m s) c
-  none-shown e = subst (Nearest (shown m s) c) e next-shown
-
 -- ---- a walk
 
--- from the cursor, each step gives the next of the list, and then none
-abbrev Leads : (Cursor → Option Finding) → Cursor → List Finding → Type 0
+-- from the place, each step gives the next of the list, and then none
+abbrev pub Leads : (Place → Option Finding) → Place → List Finding → Type 0
 Leads step c [] = step c ≡ none
 Leads step c (x ∷ l) = (step c ≡ some x) × Leads step (placeOf x) l
 
-walk-leads : (step : Cursor → Option Finding) (n : ℕ) (c : Cursor) (l : List Finding) → Leads step c l → length l ≤ n → walk step n c ≡ l
-walk-leads step zero c [] t h = refl
-walk-leads step (suc n) c [] t h = rw (t, walk)
-walk-leads step zero c (x ∷ l) t h = absurd (not-suc-le-zero h)
-walk-leads step (suc n) c (x ∷ l) t h = rw (t .0, walk) (ap (λ r. x ∷ r) (walk-leads step n (placeOf x) l (t .1) (le-of-suc-le-suc h)))
+pub leads-walk : (step : Place → Option Finding) (n : ℕ) (c : Place) (l : List Finding) → Leads step c l → walk step n c ≡ take n l
+leads-walk step zero c l t = refl
+leads-walk step (suc n) c [] t = rw (t, walk)
+leads-walk step (suc n) c (x ∷ l) t = rw (t .0, walk) (ap (λ r. x ∷ r) (leads-walk step n (placeOf x) l (t .1)))
 
-abbrev firstIn : List Finding → Cursor → Option Finding
+abbrev firstIn : List Finding → Place → Option Finding
 firstIn l c = first (after c) l
 
--- one more at the head that no cursor of the walk stands before
-leads-more : (x : Finding) (l : List Finding) (c : Cursor) (r : List Finding) → after c x ≡ false → All (λ y. after (placeOf y) x ≡ false) r
+-- one more at the head that no place of the walk stands before
+leads-more : (x : Finding) (l : List Finding) (c : Place) (r : List Finding) → after c x ≡ false → All (λ y. after (placeOf y) x ≡ false) r
     → Leads (firstIn l) c r → Leads (firstIn (x ∷ l)) c r
 leads-more x l c [] d p t = rw d t
 leads-more x l c (y ∷ r) d p t = (rw d (t .0), leads-more x l (placeOf y) r (p .0) (p .1) (t .1))
 
-leads-all : (c : Cursor) (l : List Finding) → Rising l → All (λ x. after c x ≡ true) l → Leads (firstIn l) c l
+leads-all : (c : Place) (l : List Finding) → Rising l → All (λ x. after c x ≡ true) l → Leads (firstIn l) c l
 leads-all c [] s t = refl
 leads-all c (x ∷ l) s t = (
   rw (t .0),
   leads-more x l (placeOf x) l (after-self x) (all-map (After x) (λ y. after (placeOf y) x ≡ false) (after-turn x) l (s .0)) (leads-all (placeOf x) l (s .1) (s .0)),
 )
 
+pub findings-lead : (m : Model) (s : Bits) → Leads (nextAfter m s) start (findings m s)
+unfolding nextAfter
+findings-lead m s =
+    leads-all start (findings m s) (findings-rising m s) (all-map (FromKind 1) (λ x. after start x ≡ true) (after-kind start) (findings m s) (findings-from m s))
+
 -- "a walk from the start meets each one once": n calls, no fewer than the findings, give them all, in their order
 pub walk-meets-all : (m : Model) (s : Bits) (n : ℕ) → length (findings m s) ≤ n → walk (nextAfter m s) n start ≡ findings m s
-unfolding nextAfter
-walk-meets-all m s n h =
-    walk-leads (nextAfter m s) n start (findings m s)
-    (leads-all start (findings m s) (findings-rising m s) (all-map (FromKind 1) (λ x. after start x ≡ true) (after-kind start) (findings m s) (findings-from m s))) h
+walk-meets-all m s n h = leads-walk (nextAfter m s) n start (findings m s) (findings-lead m s) ∙ take-all n (findings m s) h

@@ -4,7 +4,7 @@ use mathlib.Core.List.{List, [], _∷_, map}
 use mathlib.Core.Option.{Option, none, some}
 use Prim.Native.Nat.{ℕ}
 use Rattle.model.specs.declared.Finding.{Finding}
-use Rattle.model.specs.Findings.{Cursor, placeOf, moved, findingCode}
+use Rattle.model.specs.Findings.{Place, placeOf, moved, findingCode}
 
 -- "The calls are: open (a settings block), admit (a container or policy block), remove a container, remove a policy, ask
 -- whether a reaches b, ask whether a container carries a value under the user key, next finding, counts, rebuild, and audit." Later ones join.
@@ -13,9 +13,9 @@ use Rattle.model.specs.Findings.{Cursor, placeOf, moved, findingCode}
 pub data Query : Type 0 where
   askReaches : ℕ → ℕ → Query
   askUser : ℕ → ℕ → Query
-  nextFinding : Cursor → Query
-  -- the next findings after a cursor, into a list lent for so many numbers
-  listFindings : Cursor → ℕ → Query
+  nextFinding : Place → Query
+  -- the next findings after a place, into a list lent for so many numbers
+  listFindings : Place → ℕ → Query
   counts : Query
   audit : Query
 
@@ -39,10 +39,10 @@ pub data Answer : Type 0 where
   policyAt : ℕ → Answer
   says : Bool → Answer
   -- "The place in the list is handed back with each finding."
-  found : Finding → Cursor → Answer
+  found : Finding → Place → Answer
   noFinding : Answer
   -- the numbers put into the list that was lent, and the place to go on from
-  findingsPut : List ℕ → Cursor → Answer
+  findingsPut : List ℕ → Place → Answer
   -- standing containers, standing policies, PAIRS
   counted : ℕ → ℕ → ℕ → Answer
 
@@ -50,18 +50,18 @@ abbrev pub foundAnswer : Option Finding → Answer
 foundAnswer none = noFinding
 foundAnswer (some g) = found g (placeOf g)
 
--- the findings after a cursor, each as one number
-abbrev pub findingsAnswer : Cursor → List Finding → Answer
+-- the findings after a place, each as one number
+abbrev pub findingsAnswer : Place → List Finding → Answer
 findingsAnswer c l = findingsPut (map findingCode l) (moved c l)
 
 -- The parts of an answer that something above asks for, each where the answer has it.
 pub record Said : Type 0 where
   pub refused : Option ℕ
-  pub finding : Option (Finding × Cursor)
-  pub put : Option (List ℕ × Cursor)
+  pub finding : Option (Finding × Place)
+  pub put : Option (List ℕ × Place)
   pub counts : Option (ℕ × ℕ × ℕ)
 
-abbrev pub saying : Option ℕ → Option (Finding × Cursor) → Option (List ℕ × Cursor) → Option (ℕ × ℕ × ℕ) → Said
+abbrev pub saying : Option ℕ → Option (Finding × Place) → Option (List ℕ × Place) → Option (ℕ × ℕ × ℕ) → Said
 saying r f p n = record { refused = r; finding = f; put = p; counts = n }
 
 -- The one function by cases of an answer.

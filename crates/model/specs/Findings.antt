@@ -140,36 +140,36 @@ shown m s g =
 -- ---- the next finding
 
 -- A place in the list: any three numbers.
-pub record Cursor : Type 0 where
+pub record Place : Type 0 where
   pub kind : ℕ
   pub a : ℕ
   pub b : ℕ
 
 -- the three numbers of a finding as a place in the list
-abbrev pub placeOf : Finding → Cursor
+abbrev pub placeOf : Finding → Place
 placeOf f = record { kind = f .kind; a = f .a; b = f .b }
 
--- g stands after the cursor in the order
-unfoldable pub after : Cursor → Finding → Bool
+-- g stands after the place in the order
+unfoldable pub after : Place → Finding → Bool
 after c g =
     ltb (c .kind) (g .kind) || (eqb (c .kind) (g .kind)
     && (ltb (c .a) (g .a) || (eqb (c .a) (g .a) && ltb (c .b) (g .b))))
 
 -- "Next finding takes three numbers, any at all, and gives the first finding after them in the order, or says there is none."
-unfoldable pub nextAfter : Model → Bits → Cursor → Option Finding
+unfoldable pub nextAfter : Model → Bits → Place → Option Finding
 nextAfter m s c = first (after c) (findings m s)
 
 -- "The start is 0 0 0."
-abbrev pub start : Cursor
+abbrev pub start : Place
 start = record { kind = 0; a = 0; b = 0 }
 
--- "A walk calls next finding from 0 0 0, then from each finding given, until there is none." At most n calls from a cursor.
-abbrev pub walk : (Cursor → Option Finding) → ℕ → Cursor → List Finding
+-- "A walk calls next finding from 0 0 0, then from each finding given, until there is none." At most n calls from a place.
+abbrev pub walk : (Place → Option Finding) → ℕ → Place → List Finding
 walk step zero c = []
 walk step (suc n) c = elim (step c) [ none ↦ [] | some g ↦ g ∷ walk step n (placeOf g) ]
 
--- the place that a walk from a cursor over these findings has come to
-abbrev pub moved : Cursor → List Finding → Cursor
+-- the place that a walk from a place over these findings has come to
+abbrev pub moved : Place → List Finding → Place
 moved c [] = c
 moved c (g ∷ l) = moved (placeOf g) l
 

@@ -9,4 +9,3 @@ pub mod ModelStep
 pub mod Registry
 pub mod Refusals
 pub mod RegistryStep
-pub mod Stars

@@ -22,6 +22,11 @@ module _ {A : Type 0} where
   count f [] = 0
   count f (x ∷ xs) = cond (f x) 1 0 + count f xs
 
+  -- those of a list that pass
+  abbrev pub filter : (A → Bool) → List A → List A
+  filter f [] = []
+  filter f (x ∷ xs) = cond (f x) (x ∷ filter f xs) (filter f xs)
+
   -- the first of a list that passes
   abbrev pub first : (A → Bool) → List A → Option A
   first f [] = none

@@ -3,16 +3,10 @@ ghost use mathlib.Core.Path.{_≡_};
 ghost use Prim.Native.Nat.{_+_, _≤_, _<_};
 ghost use lib.ListN.{length};
 ghost use lib.Seq.{paste};
-ghost use Rattle.pieces.specs.Left.{Does};
-ghost use Rattle.pieces.specs.Pieces.{share, waits, takeStep};
-use intake::State;
-
-// The state after a step, how many bytes of the piece it used, and how many bytes of text it put.
-pub struct Stepped {
-    pub state: State,
-    pub used: usize,
-    pub put: usize,
-}
+ghost use Rattle.sheets.specs.Left.{Does};
+ghost use Rattle.sheets.specs.Pieces.{share, waits, takeStep};
+use sheets::State;
+use sheets::Stepped;
 
 // How many bytes of a piece of n bytes go to a started block of f.
 fn share(f: usize, n: usize) -> usize

@@ -11,11 +11,12 @@ use Rattle.block.specs.Entry.{Label, Policy, Settings, policy}
 use Rattle.block.specs.Reader.{directionOf}
 use Rattle.block.specs.Reading.{word, packed}
 use Rattle.block.specs.Written.{validLabels, validEntry}
+use Rattle.block.proofs.Written.{direction-back}
 use Rattle.store.specs.Layout.{policyWords}
 use Rattle.formed.specs.Words.{labelWord, partWord, policyWord}
 use Rattle.formed.specs.Labels.{unpacked}
 use Rattle.formed.proofs.Parts.{labels-few}
-use Rattle.formed.proofs.Slots.{valid-policy, direction-back}
+use Rattle.formed.proofs.Slots.{valid-policy}
 use Rattle.formed.proofs.LabelLaws.{padded-at, unpacked-back}
 use Rattle.policy_entries.specs.PolicyEntry.{policyFrom, PolicyWords, SaysPolicy, SlotWords}
 

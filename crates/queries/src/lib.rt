@@ -96,6 +96,6 @@ pub fn audit(memory: &[u64]) -> Reply
     if let Tested::Refused(by) = tested {
         return Reply::Refused(by.number);
     }
-    let consistent = whole::is_consistent(memory);
+    let consistent = audit::is_consistent(memory);
     Reply::Says(consistent)
 }

@@ -1,12 +1,14 @@
-// The policies of a direction, and what a row or a column of the matrix is worked out from.
+// The policies of a direction, what a row or a column of the matrix is worked out from, and a container's row and column.
 ghost use mathlib.Core.Path.{_≡_};
 ghost use mathlib.Core.Bool.{true};
-ghost use Prim.Native.Nat.{_≤_};
+ghost use Prim.Native.Nat.{_≤_, _<_};
 ghost use Rattle.bitrow.specs.Bit.{bitAt};
+ghost use Rattle.block.specs.Entry.{ingress, egress};
 ghost use Rattle.block.specs.Reader.{directionOf};
 ghost use Rattle.model.specs.Table.{stands};
 ghost use Rattle.formed.specs.Registry.{modelIn, wellFormed};
-ghost use Rattle.reach.specs.Sides.{directionSet, SidesOf, Exchanged};
+ghost use Rattle.sets.specs.Sets.{SetsOf};
+ghost use Rattle.reach.specs.Sides.{directionSet, SidesOf, Exchanged, lineBit};
 use rules::Sides;
 
 // The standing policies of a direction, 1 ingress, 2 egress.
@@ -51,7 +53,7 @@ pub fn sides_of(
 }
 
 // The same for the other direction.
-pub fn exchanged(sides: Sides, selected: &[[u64; 4]; 128]) -> Sides
+fn exchanged(sides: Sides, selected: &[[u64; 4]; 128]) -> Sides
     ensures { λ r. ⌜ Exchanged sides (now (selected .entry)) r ⌝ }
 {
     let standing = sides.standing;
@@ -64,4 +66,29 @@ pub fn exchanged(sides: Sides, selected: &[[u64; 4]; 128]) -> Sides
         back: out,
         chosen,
     }
+}
+
+// A container's row and column of the matrix.
+pub struct Lines {
+    pub row: [u64; 4],
+    pub column: [u64; 4],
+}
+
+// Both by the rules, from each policy's two sets.
+pub fn lines_of(
+    memory: &[u64],
+    standing: [u64; 4],
+    selected: &[[u64; 4]; 128],
+    allowed: &[[u64; 4]; 128],
+    c: usize,
+) -> Lines
+    requires { ⌜ (wellFormed (now memory) ≡ true) × (bitAt standing ≡ stands (modelIn (now memory) .containers)) ⌝ }
+    requires { ⌜ (c < 256) × SetsOf (modelIn (now memory)) (now selected) (now allowed) ⌝ }
+    ensures { λ r. ⌜ (bitAt (r .row) ≡ lineBit (modelIn (now (memory .entry))) egress c) × (bitAt (r .column) ≡ lineBit (modelIn (now (memory .entry))) ingress c) ⌝ }
+{
+    let across = sides_of(memory, standing, selected, 2);
+    let row = rules::row_by_rules(c, across, selected, allowed);
+    let down = exchanged(across, selected);
+    let column = rules::row_by_rules(c, down, selected, allowed);
+    Lines { row, column }
 }

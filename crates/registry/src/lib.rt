@@ -2,13 +2,13 @@
 ghost use mathlib.Core.Path.{_≡_};
 ghost use Rattle.store.specs.Layout.{memoryWords};
 pub use admission::admit;
-pub use admission::open;
 pub use answers::Admitted;
 pub use answers::Counted;
 pub use answers::FindingsPut;
 pub use answers::NextFinding;
 pub use answers::Outcome;
 pub use answers::Reply;
+pub use opening::open;
 pub use queries::audit;
 pub use queries::carries_user;
 pub use queries::counts;

@@ -26,7 +26,7 @@ pub fn remove_container(memory: &mut [u64], slot: ContainerSlot) -> Outcome
     if let Tested::Refused(by) = named {
         return Outcome::Refused(by.number);
     }
-    container_changes::take_container(memory, slot);
+    clearing::take_container(memory, slot);
     Outcome::Done
 }
 

@@ -1,13 +1,13 @@
 // The report, apart from reading and writing: a state that is lent pieces of input and a buffer, and puts text. The text of all
-// steps, joined, is the whole sheet, however the input was cut and whatever the buffers hold (specs/Runs.antt).
+// steps, joined, is the whole sheet, however the input was cut and whatever the buffers hold (sheets/specs/Runs.antt).
 ghost use mathlib.Core.Path.{_≡_};
 ghost use mathlib.Core.Bool.{false};
 ghost use Prim.Native.Nat.{_≤_, _<_};
 ghost use lib.ListN.{length};
-ghost use Rattle.pieces.specs.Left.{Does};
-ghost use Rattle.report.specs.Step.{startState, finishedIn, reportStep, startedIn, ahead, Fed};
-pub use intake::State;
-pub use pieces::Stepped;
+ghost use Rattle.sheets.specs.Left.{Does};
+ghost use Rattle.sheets.specs.Step.{startState, finishedIn, reportStep, startedIn, ahead, Fed};
+pub use sheets::State;
+pub use sheets::Stepped;
 
 // No block was taken.
 pub fn start() -> State

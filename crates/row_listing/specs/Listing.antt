@@ -3,8 +3,7 @@ use mathlib.Core.Bool.{Bool}
 use mathlib.Core.List.{List, map}
 use Prim.Native.Nat.{ℕ}
 use Rattle.model.specs.declared.Finding.{Finding}
-use Rattle.model.specs.Table.{upFrom}
-use Rattle.model.specs.Stars.{filter}
+use Rattle.model.specs.Table.{filter, upFrom}
 use Rattle.model.specs.Findings.{finding}
 
 -- the numbers of a set among the n from i on, rising

@@ -88,11 +88,20 @@ module _ {n : ℕ} {w : ℕ → Bool} {sel alw : ℕ → ℕ → Bool} {a : ℕ}
       ap (λ (b : Bool). (s j && not (some (λ q. w q && sel q j) n)) || (s j && b)) (some-cong _ _ n (λ q h. and-swap (w q) (alw q a) (sel q j)))
       ∙ sym (and-or-distrib-left (s j) (not (some (λ q. w q && sel q j) n)) (some (λ q. (w q && sel q j) && alw q a) n))))
 
+  -- the same, of sets that are these
+  pub lets-by-these : {t y z r : ℕ → Bool} → Picks n w alw sel a x u → t ≡ union w sel n → y ≡ less s t → z ≡ meet s u → r ≡ join y z
+      → r ≡ meet s (setsLetBy n w sel alw a)
+  lets-by-these {t} {y} {z} p e l m f = f ∙ ap (λ (k : ℕ → Bool). join k z) l ∙ ap (join (less s t)) m ∙ lets-by p e
+
 module _ (n : ℕ) (s w v : ℕ → Bool) (sel alw : ℕ → ℕ → Bool) (a : ℕ) where
   -- one after the other, where a stands
   pub line-meet : s a ≡ true → meet (meet s (setsLet n w sel alw a)) (setsLetBy n v sel alw a) ≡ line n s w v sel alw a
   unfolding meet setsLetBy line
   line-meet e = fun-ext (λ j. rw e (and-assoc (s j) (setsLet n w sel alw a j) (setsLet n v sel alw j a)))
+
+  pub line-meet-these : {t r : ℕ → Bool} → s a ≡ true → t ≡ meet s (setsLet n w sel alw a) → r ≡ meet t (setsLetBy n v sel alw a)
+      → r ≡ line n s w v sel alw a
+  line-meet-these e h f = f ∙ ap (λ (k : ℕ → Bool). meet k (setsLetBy n v sel alw a)) h ∙ line-meet e
 
   pub line-free : s a ≡ false → nothing ≡ line n s w v sel alw a
   unfolding nothing line

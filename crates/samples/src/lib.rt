@@ -1,10 +1,15 @@
 // Blocks of 512 bytes, made and sealed.
 ghost use mathlib.Core.Path.{_≡_};
-ghost use Prim.Native.Nat.{_+_, _%_, _≤_, _<_};
-ghost use lib.ListN.{length};
+ghost use mathlib.Core.List.{[], _∷_};
+ghost use Prim.Native.Nat.{_+_, _%_, _≤_, min};
+ghost use lib.ListN.{length, set};
+ghost use lib.Seq.{sets};
+ghost use Rattle.block.specs.Bytes.{checksum};
+ghost use Rattle.block.specs.Written.{numberBytes};
+ghost use Rattle.samples.specs.Samples.{risingLabels, front, blockOfShape};
 
-// What a block is made of: its first four bytes, then labels with rising keys and value 1, then one byte put anywhere before
-// byte 510, and by how much the stored checksum is to be above the computed one.
+// What a block is made of: its first four bytes, then nine labels at most with rising keys and value 1, then one byte put
+// anywhere before byte 510, and by how much the stored checksum is to be above the computed one.
 pub struct Shape {
     pub kind: u8,
     pub one: u8,
@@ -87,88 +92,67 @@ pub fn spoiled(shape: Shape) -> Shape
     changed
 }
 
-fn put(block: &mut [u8], at: usize, byte: u8)
-    requires { ⌜ (512 ≡ length (now block)) × (at < 512) ⌝ }
+// Puts four bytes from `at` on.
+fn put_four(block: &mut [u8], at: usize, a: u8, b: u8, c: u8, d: u8)
+    requires { ⌜ at + 4 ≤ length (now block) ⌝ }
+    ensures { λ _. ⌜ now (block .exit) ≡ sets (now (block .entry)) at (a ∷ b ∷ c ∷ d ∷ []) ⌝ }
 {
-    block[at] = byte;
+    block[at] = a;
+    block[at + 1] = b;
+    block[at + 2] = c;
+    block[at + 3] = d;
 }
 
 fn nine_at_most(n: u8) -> u8
-    ensures { λ r. ⌜ r ≤ 9 ⌝ }
+    ensures { λ r. ⌜ (r ≡ min n 9) × (r ≤ 9) ⌝ }
 {
     if n < 9 { n } else { 9 }
 }
 
 // Puts labels from byte 4 on, nine at most.
 fn put_labels(block: &mut [u8], labels: u8, key: u8)
-    requires { ⌜ 512 ≡ length (now block) ⌝ }
+    requires { ⌜ 40 ≤ length (now block) ⌝ }
+    ensures { λ _. ⌜ now (block .exit) ≡ sets (now (block .entry)) 4 (risingLabels key (min labels 9)) ⌝ }
 {
     let n = nine_at_most(labels);
     let mut k: u8 = 0;
     let mut at = 4;
     while k < n {
-        put(block, at + 1, std::num::wrapping_add_u8(key, k));
-        put(block, at + 3, 1);
+        put_four(block, at, 0, std::num::wrapping_add_u8(key, k), 0, 1);
         at += 4;
         k += 1;
     }
 }
 
-fn wide(x: u8) -> u64
-    ensures { λ r. ⌜ r ≤ 255 ⌝ }
+// Puts the front and the one byte of a shape.
+fn put_body(body: &mut [u8], shape: Shape)
+    requires { ⌜ length (now body) ≡ 510 ⌝ }
+    ensures { λ _. ⌜ now (body .exit) ≡ set (sets (now (body .entry)) 0 (front shape)) (shape .at) (shape .byte) ⌝ }
 {
-    x as u64
-}
-
-// The sum over bytes 0 to 509 of byte times (its position + 1): from the last byte on, the sum of the sums so far.
-fn weighted(block: &[u8]) -> u64
-    requires { ⌜ 512 ≡ length (now block) ⌝ }
-    ensures { λ r. ⌜ r ≤ 66325500 ⌝ }
-{
-    let mut i = 510;
-    let mut sum: u64 = 0;
-    let mut weighted: u64 = 0;
-    while i > 0 {
-        i -= 1;
-        sum += wide(block[i]);
-        weighted += sum;
-    }
-    weighted
-}
-
-fn put_checksum(block: &mut [u8], above: u8)
-    requires { ⌜ 512 ≡ length (now block) ⌝ }
-{
-    let checksum = (weighted(block) + wide(above)) % 65521;
-    put(block, 510, (checksum / 256) as u8);
-    put(block, 511, (checksum % 256) as u8);
-}
-
-fn put_before(block: &mut [u8], at: usize, byte: u8)
-    requires { ⌜ 512 ≡ length (now block) ⌝ }
-{
+    put_four(body, 0, shape.kind, shape.one, shape.two, shape.three);
+    put_labels(body, shape.labels, shape.key);
+    let at = shape.at;
     if at < 510 {
-        put(block, at, byte);
+        body[at] = shape.byte;
     }
 }
 
-fn make(block: &mut [u8], shape: Shape)
-    requires { ⌜ 512 ≡ length (now block) ⌝ }
+// Puts the checksum plus `above` into bytes 510 and 511.
+fn put_checksum(block: &mut [u8], above: u8)
+    requires { ⌜ length (now block) ≡ 512 ⌝ }
+    ensures { λ _. ⌜ now (block .exit) ≡ sets (now (block .entry)) 510 (numberBytes ((checksum (now (block .entry)) + above) % 65521)) ⌝ }
 {
-    put(block, 0, shape.kind);
-    put(block, 1, shape.one);
-    put(block, 2, shape.two);
-    put(block, 3, shape.three);
-    put_labels(block, shape.labels, shape.key);
-    put_before(block, shape.at, shape.byte);
-    put_checksum(block, shape.above);
+    let sum = (faults::checksum(block) + faults::wide(above)) % 65521;
+    block[510] = (sum / 256) as u8;
+    block[511] = (sum % 256) as u8;
 }
 
 // The block of a shape, with its checksum.
 pub fn sealed(shape: Shape) -> [u8; 512]
-    ensures { λ r. ⌜ 512 ≡ length r ⌝ }
+    ensures { λ r. ⌜ (r ≡ blockOfShape shape) × (512 ≡ length r) ⌝ }
 {
     let mut block = [0u8; 512];
-    make(&mut block, shape);
+    put_body(&mut block[..510], shape);
+    put_checksum(&mut block, shape.above);
     block
 }

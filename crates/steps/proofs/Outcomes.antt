@@ -15,13 +15,13 @@ use Rattle.block.specs.declared.Tested.the-variants.{Passed, Refused}
 use Rattle.block.specs.Refusal.{Check, check, firstRefusal, refused, accepted}
 use Rattle.block.specs.Refusal.{readUnless}
 use Rattle.block.specs.Reader.{settingsChecks, entryChecks, settingsSaid, entrySaid, readSettings, readEntry}
-use Rattle.model.specs.Findings.{Cursor}
+use Rattle.model.specs.Findings.{Place}
 use Rattle.model.specs.Table.{Table, on, isFree, at, free, lowestFree}
 use Rattle.model.specs.Rules.{carries}
 use Rattle.model.specs.Model.{containerSlots, policySlots}
 use Rattle.model.specs.Findings.{containersOf, policiesOf, nextAfter, walk, pairs}
 use Rattle.model.specs.Calls.{askReaches, askUser, nextFinding, listFindings, counts, audit}
-use Rattle.model.specs.Calls.{Call, openWith, change, admit, removeContainer, removePolicy, rebuild, ask}
+use Rattle.model.specs.Calls.{Call, Change, Query, openWith, change, admit, removeContainer, removePolicy, rebuild, ask}
 use Rattle.model.specs.Calls.{refusal, done, containerAt, policyAt, says, counted, foundAnswer, findingsAnswer}
 use Rattle.model.specs.Registry.{computed, consistent, changeContainer, changePolicy, opened, rebuilt}
 use Rattle.model.specs.Refusals.{where0, slotChecks, pairChecks, noRoom, refusals}
@@ -35,6 +35,24 @@ use Rattle.formed.specs.Registry.{modelIn, bitsIn, registryIn, image, wellForme
 use Rattle.formed.proofs.Formed.{formed-memory}
 use Rattle.steps.specs.MemoryStep.{formedCheck, meetsFormed, memoryRefusals, changes, memoryOutcome, memoryStep}
 
+-- ---- the two outcomes. All that follows cites these, so that a wrong outcome is met here and explained once
+
+pub refused-outcome : (m : List ℕ) (call : Call) (f : Refusal) → memoryOutcome m call (Refused f) ≡ (m, refusal (f .number))
+refused-outcome m call f = refl
+
+pub accepted-outcome : (m : List ℕ) (call : Call) → memoryOutcome m call Passed
+    ≡ (cond (changes call) (image (acceptedStep (registryIn m) call .0)) m, acceptedStep (registryIn m) call .1)
+accepted-outcome m call = refl
+
+pub change-changes : (c : Change) → changes (change c) ≡ true
+change-changes c = refl
+
+changed-outcome : (m : List ℕ) (c : Change) → memoryOutcome m (change c) Passed
+    ≡ (image (acceptedStep (registryIn m) (change c) .0), acceptedStep (registryIn m) (change c) .1)
+changed-outcome m c =
+    let r = acceptedStep (registryIn m) (change c) in
+    accepted-outcome m (change c) ∙ ap (λ t. (cond t (image (r .0)) m, r .1)) (change-changes c)
+
 -- ---- any call
 
 module _ (m : List ℕ) (call : Call) where
@@ -44,6 +62,7 @@ module _ (m : List ℕ) (call : Call) where
   step-size h =
       ap (λ t. memoryOutcome m call (firstRefusal (check 1 (where0 (not t)) ∷ (meetsFormed m call ++ refusals (registryIn m) call))))
       (ne-eqb (length m) memoryWords h)
+      ∙ refused-outcome m call (record { number = 1; position = 0 })
 
   past-size : length m ≡ memoryWords → memoryStep m call ≡ memoryOutcome m call (firstRefusal (meetsFormed m call ++ refusals (registryIn m) call))
   unfolding memoryStep memoryRefusals
@@ -57,6 +76,7 @@ module _ (m : List ℕ) (call : Call) where
       past-size h
       ∙ ap (λ cs. memoryOutcome m call (firstRefusal (cs ++ refusals (registryIn m) call))) e
       ∙ ap (λ t. memoryOutcome m call (firstRefusal (check 2 (where0 (not t)) ∷ refusals (registryIn m) call))) w
+      ∙ refused-outcome m call (record { number = 2; position = 0 })
 
 module _ (m : List ℕ) where
   -- what a call meets after 1, and on a well-formed memory after 2
@@ -76,12 +96,16 @@ module _ (m : List ℕ) where
 
   pub step-refused : wellFormed m ≡ true → (call : Call) (f : Refusal) → firstRefusal (refusals (registryIn m) call) ≡ Refused f
       → memoryStep m call ≡ (m, refusal (f .number))
-  step-refused w call f e = step-past w call ∙ ap (memoryOutcome m call) e
+  step-refused w call f e = step-past w call ∙ ap (memoryOutcome m call) e ∙ refused-outcome m call f
 
-  pub step-accepted : wellFormed m ≡ true → (call : Call) → firstRefusal (refusals (registryIn m) call) ≡ Passed
-      → memoryStep m call
-      ≡ (cond (changes call) (image (acceptedStep (registryIn m) call .0)) m, acceptedStep (registryIn m) call .1)
-  step-accepted w call e = step-past w call ∙ ap (memoryOutcome m call) e
+  -- a change, and a call that asks
+  pub step-changed : wellFormed m ≡ true → (c : Change) → firstRefusal (refusals (registryIn m) (change c)) ≡ Passed
+      → memoryStep m (change c) ≡ (image (acceptedStep (registryIn m) (change c) .0), acceptedStep (registryIn m) (change c) .1)
+  step-changed w c e = step-past w (change c) ∙ ap (memoryOutcome m (change c)) e ∙ changed-outcome m c
+
+  pub step-asked : wellFormed m ≡ true → (q : Query) → firstRefusal (refusals (registryIn m) (ask q)) ≡ Passed
+      → memoryStep m (ask q) ≡ (m, acceptedStep (registryIn m) (ask q) .1)
+  step-asked w q e = step-past w (ask q) ∙ ap (memoryOutcome m (ask q)) e ∙ accepted-outcome m (ask q)
 
 module _ (cs ds : List Check) where
   append-refused : (f : Refusal) → firstRefusal cs ≡ Refused f → firstRefusal (cs ++ ds) ≡ Refused f
@@ -137,14 +161,15 @@ module _ (m b : List ℕ) (whole : length m ≡ memoryWords) where
 
   pub open-refused : (f : Refusal) → readSettings b ≡ refused f → memoryStep m (openWith b) ≡ (m, refusal (f .number))
   unfolding readSettings
-  open-refused f e = open-past ∙ ap (memoryOutcome m (openWith b)) (read-refused (firstRefusal (settingsChecks b)) (settingsSaid b) f e)
+  open-refused f e =
+      open-past ∙ ap (memoryOutcome m (openWith b)) (read-refused (firstRefusal (settingsChecks b)) (settingsSaid b) f e) ∙ refused-outcome m (openWith b) f
 
   -- says nothing of what was there
   pub open-done : (s : Settings) → readSettings b ≡ accepted s → memoryStep m (openWith b) ≡ (image (opened s), done)
   unfolding readSettings acceptedStep
   open-done s e =
       let h = read-accepted (firstRefusal (settingsChecks b)) (settingsSaid b) s e in
-      open-past ∙ ap (memoryOutcome m (openWith b)) (h .0) ∙ ap (λ v. (image (opened v), done)) (h .1)
+      open-past ∙ ap (memoryOutcome m (openWith b)) (h .0) ∙ accepted-outcome m (openWith b) ∙ ap (λ v. (image (opened v), done)) (h .1)
 
 -- ---- the other calls, on a well-formed memory
 
@@ -177,8 +202,8 @@ module _ (m : List ℕ) (formed : wellFormed m ≡ true) where
       where
         pick : (t : Bool) → memoryOutcome m (change (admit b)) (firstRefusal (check 12 (where0 t) ∷ []))
             ≡ cond t (m, refusal 12) (image (admitEntry (registryIn m) (entrySaid b) .0), admitEntry (registryIn m) (entrySaid b) .1)
-        pick true = refl
-        pick false = refl
+        pick true = refused-outcome m (change (admit b)) (record { number = 12; position = 0 })
+        pick false = changed-outcome m (admit b)
 
     pub admit-container-full : (x : Container) → readEntry (modelIn m .settings) b ≡ accepted (container x)
         → lowestFree (modelIn m .containers) ≡ none → memoryStep m (change (admit b)) ≡ (m, refusal 12)
@@ -208,7 +233,7 @@ module _ (m : List ℕ) (formed : wellFormed m ≡ true) where
         → memoryStep m (change (removeContainer c)) ≡ (image (changeContainer (registryIn m) c none), done)
     unfolding refusals registryIn acceptedStep
     remove-done x h e =
-        step-accepted m formed (change (removeContainer c)) (slot-taken containerSlots (modelIn m .containers) (sized-in m .containers) c x h e)
+        step-changed m formed (removeContainer c) (slot-taken containerSlots (modelIn m .containers) (sized-in m .containers) c x h e)
 
   -- remove a policy
   module _ (q : ℕ) where
@@ -216,7 +241,7 @@ module _ (m : List ℕ) (formed : wellFormed m ≡ true) where
         → memoryStep m (change (removePolicy q)) ≡ (image (changePolicy (registryIn m) q p none), done)
     unfolding refusals registryIn acceptedStep takePolicy
     remove-policy-done p h e =
-        step-accepted m formed (change (removePolicy q)) (slot-taken policySlots (modelIn m .policies) (sized-in m .policies) q p h e)
+        step-changed m formed (removePolicy q) (slot-taken policySlots (modelIn m .policies) (sized-in m .policies) q p h e)
         ∙ ap (λ (o : Option Policy). (image (takePolicy (registryIn m) q o .0), takePolicy (registryIn m) q o .1)) e
 
   -- whether a reaches b
@@ -231,7 +256,7 @@ module _ (m : List ℕ) (formed : wellFormed m ≡ true) where
         → memoryStep m (ask (askReaches a b)) ≡ (m, says (bitsIn m .matrix a b))
     unfolding refusals registryIn acceptedStep answerTo
     reaches-says x y h k e f =
-        step-accepted m formed (ask (askReaches a b)) (pair-taken containerSlots (modelIn m .containers) (sized-in m .containers) a b x y h k e f)
+        step-asked m formed (askReaches a b) (pair-taken containerSlots (modelIn m .containers) (sized-in m .containers) a b x y h k e f)
 
   -- whether c carries v under the user key
   module _ (c v : ℕ) where
@@ -239,26 +264,26 @@ module _ (m : List ℕ) (formed : wellFormed m ≡ true) where
         → memoryStep m (ask (askUser c v)) ≡ (m, says (carries x (record { key = modelIn m .settings .userKey; value = v })))
     unfolding refusals registryIn acceptedStep answerTo
     user-says x h e =
-        step-accepted m formed (ask (askUser c v)) (slot-taken containerSlots (modelIn m .containers) (sized-in m .containers) c x h e)
+        step-asked m formed (askUser c v) (slot-taken containerSlots (modelIn m .containers) (sized-in m .containers) c x h e)
         ∙ ap (λ (o : Option Container). (m, says (on (λ y. carries y (record { key = modelIn m .settings .userKey; value = v })) o))) e
 
   -- those that meet 1 and 2 alone
-  pub next-answers : (c : Cursor) → memoryStep m (ask (nextFinding c)) ≡ (m, foundAnswer (nextAfter (modelIn m) (bitsIn m) c))
+  pub next-answers : (c : Place) → memoryStep m (ask (nextFinding c)) ≡ (m, foundAnswer (nextAfter (modelIn m) (bitsIn m) c))
   unfolding refusals registryIn acceptedStep answerTo
-  next-answers c = step-accepted m formed (ask (nextFinding c)) refl
+  next-answers c = step-asked m formed (nextFinding c) refl
 
-  pub findings-answers : (c : Cursor) (n : ℕ) → memoryStep m (ask (listFindings c n)) ≡ (m, findingsAnswer c (walk (nextAfter (modelIn m) (bitsIn m)) n c))
+  pub findings-answers : (c : Place) (n : ℕ) → memoryStep m (ask (listFindings c n)) ≡ (m, findingsAnswer c (walk (nextAfter (modelIn m) (bitsIn m)) n c))
   unfolding refusals registryIn acceptedStep answerTo
-  findings-answers c n = step-accepted m formed (ask (listFindings c n)) refl
+  findings-answers c n = step-asked m formed (listFindings c n) refl
 
   pub counts-answers : memoryStep m (ask counts) ≡ (m, counted (length (containersOf (modelIn m))) (length (policiesOf (modelIn m))) (pairs (bitsIn m)))
   unfolding refusals registryIn acceptedStep answerTo
-  counts-answers = step-accepted m formed (ask counts) refl
+  counts-answers = step-asked m formed counts refl
 
   pub rebuild-done : memoryStep m (change rebuild) ≡ (image (computed (modelIn m)), done)
   unfolding refusals registryIn acceptedStep rebuilt
-  rebuild-done = step-accepted m formed (change rebuild) refl
+  rebuild-done = step-changed m formed rebuild refl
 
   pub audit-says : memoryStep m (ask audit) ≡ (m, says (consistent (registryIn m)))
   unfolding refusals acceptedStep answerTo
-  audit-says = step-accepted m formed (ask audit) refl
+  audit-says = step-asked m formed audit refl

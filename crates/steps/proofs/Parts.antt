@@ -10,7 +10,7 @@ use native.Mathlib.Nat.{add-zero}
 use lib.ListN.{length, length-append, length-map}
 use Rattle.block.specs.Entry.{Settings}
 use Rattle.model.specs.declared.Finding.{Finding}
-use Rattle.model.specs.Findings.{Cursor, findings, placeOf, nextAfter, start, walk, moved, findingCode}
+use Rattle.model.specs.Findings.{Place, findings, placeOf, nextAfter, start, walk, moved, findingCode}
 use Rattle.model.specs.Model.{empty}
 use Rattle.model.specs.Calls.{ask, listFindings, findingsPut}
 use Rattle.model.proofs.Next.{walk-meets-all}
@@ -21,12 +21,12 @@ use Rattle.steps.proofs.Outcomes.{findings-answers}
 
 -- All that the call findings puts from a cursor, with room for n numbers, and again from the place that it hands back, until it puts
 -- fewer than n.
-pub data Parts (m : List ℕ) (n : ℕ) : Cursor → List ℕ → Type 0 where
-  last : (c d : Cursor) (l : List ℕ) → memoryStep m (ask (listFindings c n)) .1 ≡ findingsPut l d → length l < n → Parts m n c l
-  full : (c d : Cursor) (l r : List ℕ) → memoryStep m (ask (listFindings c n)) .1 ≡ findingsPut l d → length l ≡ n → Parts m n d r → Parts m n c (l ++ r)
+pub data Parts (m : List ℕ) (n : ℕ) : Place → List ℕ → Type 0 where
+  last : (c d : Place) (l : List ℕ) → memoryStep m (ask (listFindings c n)) .1 ≡ findingsPut l d → length l < n → Parts m n c l
+  full : (c d : Place) (l r : List ℕ) → memoryStep m (ask (listFindings c n)) .1 ≡ findingsPut l d → length l ≡ n → Parts m n d r → Parts m n c (l ++ r)
 
 -- the calls leave no choice of what is put
-parts-alike : {m : List ℕ} {n : ℕ} {c : Cursor} {l k : List ℕ} → Parts m n c l → Parts m n c k → l ≡ k
+parts-alike : {m : List ℕ} {n : ℕ} {c : Place} {l k : List ℕ} → Parts m n c l → Parts m n c k → l ≡ k
 parts-alike (last c d l e h) (last a b k f i) = let s : findingsPut l d ≡ findingsPut k b = sym e ∙ f in cc
 parts-alike (last c d l e h) (full a b k q f i t) =
     let s : findingsPut l d ≡ findingsPut k b = sym e ∙ f in
@@ -44,44 +44,44 @@ parts-alike {m} {n} (full c d l r e h t) (full a b k q f i u) =
 
 -- ---- a walk, and the rest of it
 
-module _ (next : Cursor → Option Finding) where
+module _ (next : Place → Option Finding) where
   abbrev from : ℕ → Option Finding → List Finding
   from n o = elim o [ none ↦ [] | some g ↦ g ∷ walk next n (placeOf g) ]
 
-  walk-none : (n : ℕ) (c : Cursor) → next c ≡ none → walk next n c ≡ []
+  walk-none : (n : ℕ) (c : Place) → next c ≡ none → walk next n c ≡ []
   walk-none zero c e = refl
   walk-none (suc n) c e = ap (from n) e
 
-  walk-split : (n k : ℕ) (c : Cursor) → walk next (k + n) c ≡ walk next n c ++ walk next k (moved c (walk next n c))
+  walk-split : (n k : ℕ) (c : Place) → walk next (k + n) c ≡ walk next n c ++ walk next k (moved c (walk next n c))
   walk-split zero k c = ap (λ j. walk next j c) (add-zero k)
   walk-split (suc n) k c = let s : k + suc n ≡ suc (k + n) = omega arith in ap (λ j. walk next j c) s ∙ pick (next c) refl (walk-split n k)
     where
-      pick : (o : Option Finding) → next c ≡ o → ((d : Cursor) → walk next (k + n) d ≡ walk next n d ++ walk next k (moved d (walk next n d)))
+      pick : (o : Option Finding) → next c ≡ o → ((d : Place) → walk next (k + n) d ≡ walk next n d ++ walk next k (moved d (walk next n d)))
           → from (k + n) o ≡ from n o ++ walk next k (moved c (from n o))
       pick none e ih = sym (walk-none k c e)
       pick (some g) e ih = ap (λ l. g ∷ l) (ih (placeOf g))
 
-  walk-most : (n : ℕ) (c : Cursor) → length (walk next n c) ≤ n
+  walk-most : (n : ℕ) (c : Place) → length (walk next n c) ≤ n
   walk-most zero c = omega arith
   walk-most (suc n) c = pick (next c) (walk-most n)
     where
-      pick : (o : Option Finding) → ((d : Cursor) → length (walk next n d) ≤ n) → length (from n o) ≤ suc n
+      pick : (o : Option Finding) → ((d : Place) → length (walk next n d) ≤ n) → length (from n o) ≤ suc n
       pick none ih = omega arith
       pick (some g) ih = let h = ih (placeOf g) in omega arith
 
   -- from the cursor these are all
-  abbrev Ends : Cursor → List Finding → Type 0
+  abbrev Ends : Place → List Finding → Type 0
   Ends c l = (k : ℕ) → length l ≤ k → walk next k c ≡ l
 
   -- the first n of at least as many, and the rest
-  record Split (c : Cursor) (l : List Finding) (n : ℕ) : Type 0 where
+  record Split (c : Place) (l : List Finding) (n : ℕ) : Type 0 where
     rest : List Finding
     whole : l ≡ walk next n c ++ rest
     first : length (walk next n c) ≡ n
     ends : Ends (moved c (walk next n c)) rest
     fewer : length rest ≡ length l - n
 
-  split : (c : Cursor) (l : List Finding) (n : ℕ) → Ends c l → n ≤ length l → Split c l n
+  split : (c : Place) (l : List Finding) (n : ℕ) → Ends c l → n ≤ length l → Split c l n
   split c l n e h =
       let p = walk next n c in
       let d = moved c p in
@@ -102,23 +102,23 @@ module _ (next : Cursor → Option Finding) where
 -- ---- the parts
 
 module _ (m : List ℕ) (formed : wellFormed m ≡ true) (n : ℕ) (some-room : 1 ≤ n) where
-  abbrev after : Cursor → Option Finding
+  abbrev after : Place → Option Finding
   after = nextAfter (modelIn m) (bitsIn m)
 
-  answer : (c : Cursor) → memoryStep m (ask (listFindings c n)) .1 ≡ findingsPut (map findingCode (walk after n c)) (moved c (walk after n c))
+  answer : (c : Place) → memoryStep m (ask (listFindings c n)) .1 ≡ findingsPut (map findingCode (walk after n c)) (moved c (walk after n c))
   answer c = ap (λ r. r .1) (findings-answers m formed c n)
 
-  part-last : (c : Cursor) (l : List Finding) → Ends after c l → length l < n → Parts m n c (map findingCode l)
+  part-last : (c : Place) (l : List Finding) → Ends after c l → length l < n → Parts m n c (map findingCode l)
   part-last c l e h =
       let d = moved c (walk after n c) in
       last c d (map findingCode l) (answer c ∙ ap (λ y. findingsPut (map findingCode y) d) (e n (omega arith))) (omega (arith, length-map l findingCode))
 
   -- with at most f findings left
-  parts : (f : ℕ) (c : Cursor) (l : List Finding) → length l ≤ f → Ends after c l → Parts m n c (map findingCode l)
+  parts : (f : ℕ) (c : Place) (l : List Finding) → length l ≤ f → Ends after c l → Parts m n c (map findingCode l)
   parts zero c l b e = part-last c l e (omega arith)
   parts (suc f) c l b e = pick (decLt (length l) n) (parts f)
     where
-      pick : Dec (length l < n) → ((d : Cursor) (r : List Finding) → length r ≤ f → Ends after d r → Parts m n d (map findingCode r)) → Parts m n c (map findingCode l)
+      pick : Dec (length l < n) → ((d : Place) (r : List Finding) → length r ≤ f → Ends after d r → Parts m n d (map findingCode r)) → Parts m n c (map findingCode l)
       pick (yes h) ih = part-last c l e h
       pick (no h) ih =
           let p = walk after n c in

@@ -13,7 +13,7 @@ use Rattle.block.specs.Refusal.{readUnless}
 use Rattle.block.specs.Reader.{settingsChecks, settingsSaid, readSettings}
 use Rattle.block.proofs.Accepted.{settings-valid}
 use Rattle.model.specs.declared.Finding.{Finding}
-use Rattle.model.specs.Findings.{Cursor}
+use Rattle.model.specs.Findings.{Place}
 use Rattle.model.specs.Findings.{placeOf, nextAfter, start, walk}
 use Rattle.model.specs.Model.{Model, empty, computedBits}
 use Rattle.model.specs.Calls.{Call, openWith, change, ask, nextFinding}
@@ -31,7 +31,7 @@ use Rattle.formed.proofs.Back.{registry-image}
 use Rattle.formed.proofs.Formed.{acceptable-image}
 use Rattle.steps.specs.MemoryStep.{changes, memoryOutcome, memoryStep}
 use Rattle.steps.specs.Refinement.{Lending, ours, other, onMemory, onModel, followed, walkOn, Refined, Refinement}
-use Rattle.steps.proofs.Outcomes.{step-size, step-past, open-past, open-done}
+use Rattle.steps.proofs.Outcomes.{refused-outcome, accepted-outcome, change-changes, step-size, step-past, open-past, open-done}
 use Rattle.steps.proofs.Valid.{Valid, acceptable-computed, valid-empty, valid-step}
 
 -- ---- one call
@@ -43,15 +43,17 @@ imaged r = (image (r .0), r .1)
 changed : (r : Registry) (call : Call) → (cond (changes call) (image (acceptedStep r call .0)) (image r), acceptedStep r call .1) ≡ imaged (acceptedStep r call)
 unfolding acceptedStep
 changed r (openWith b) = refl
-changed r (change c) = refl
+changed r (change c) = let s = acceptedStep r (change c) in ap (λ t. (cond t (image (s .0)) (image r), s .1)) (change-changes c)
 changed r (ask q) = refl
 
 outcome-image : (r : Registry) (call : Call) (o : Tested) → registryIn (image r) ≡ r
     → memoryOutcome (image r) call o ≡ imaged (unlessRefused r call o)
 unfolding unlessRefused
 outcome-image r call Passed e =
-    ap (λ (v : Registry). (cond (changes call) (image (acceptedStep v call .0)) (image r), acceptedStep v call .1)) e ∙ changed r call
-outcome-image r call (Refused f) e = refl
+    accepted-outcome (image r) call
+    ∙ ap (λ (v : Registry). (cond (changes call) (image (acceptedStep v call .0)) (image r), acceptedStep v call .1)) e
+    ∙ changed r call
+outcome-image r call (Refused f) e = refused-outcome (image r) call f
 
 -- The step on the memory of an acceptable registry is the registry's step.
 pub step-image : (r : Registry) → Acceptable r → (call : Call) → memoryStep (image r) call ≡ imaged (registryStep r call)
@@ -82,7 +84,7 @@ step-refines m g call = step-image (computed m) (good-image m g) call ∙ ap ima
 
 -- ---- every list of calls
 
-pub run-refines : (m : Model) → Good m → (calls : List Lending) → onMemory (image (computed m)) calls ≡ left (onModel m calls)
+run-refines : (m : Model) → Good m → (calls : List Lending) → onMemory (image (computed m)) calls ≡ left (onModel m calls)
 unfolding onMemory onModel
 run-refines m g [] = refl
 run-refines m g (ours call ∷ calls) = rw (step-refines m g call, run-refines (modelStep m call .0) (good-step m g call) calls)
@@ -97,12 +99,12 @@ good-run m g (other x e call ∷ calls) = good-run m g calls
 -- ---- the walk
 
 -- an answer of next finding, followed: the walk's step
-followed-is : (o : Option Finding) (f g : Cursor → List Finding) → ((c : Cursor) → f c ≡ g c)
+followed-is : (o : Option Finding) (f g : Place → List Finding) → ((c : Place) → f c ≡ g c)
     → followed (foundAnswer o) f ≡ elim o [ none ↦ [] | some x ↦ x ∷ g (placeOf x) ]
 followed-is none f g h = refl
 followed-is (some x) f g h = ap (λ l. x ∷ l) (h (placeOf x))
 
-walk-refines : (m : Model) → Good m → (n : ℕ) (c : Cursor) → walkOn (image (computed m)) n c ≡ walk (nextAfter m (computedBits m)) n c
+walk-refines : (m : Model) → Good m → (n : ℕ) (c : Place) → walkOn (image (computed m)) n c ≡ walk (nextAfter m (computedBits m)) n c
 unfolding walkOn modelStep modelAnswer
 walk-refines m g zero c = refl
 walk-refines m g (suc n) c =

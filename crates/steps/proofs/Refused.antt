@@ -14,7 +14,7 @@ use Rattle.model.specs.Refusals.{where0, refusals, Refuses}
 use Rattle.model.proofs.Refused.{first-exactly, last-passed, accepted-answers}
 use Rattle.formed.specs.Registry.{registryIn}
 use Rattle.steps.specs.MemoryStep.{otherSize, meetsFormed, memoryRefusals, changes, memoryOutcome, memoryStep}
-use Rattle.steps.proofs.Outcomes.{sized-in}
+use Rattle.steps.proofs.Outcomes.{refused-outcome, accepted-outcome, sized-in}
 
 module _ (m : List ℕ) where
   answered : (call : Call) (n : ℕ) (o : Tested) → firstRefusal (memoryRefusals m call) ≡ o → memoryOutcome m call o .1 ≡ refusal n
@@ -22,7 +22,7 @@ module _ (m : List ℕ) where
   unfolding memoryRefusals registryIn
   answered call n Passed h e =
       let d = last-passed (check 1 (where0 (otherSize m)) ∷ meetsFormed m call) (refusals (registryIn m) call) h in
-      let a : some n ≡ none = sym (ap (λ x. said x .refused) e) ∙ accepted-answers (registryIn m) (sized-in m) call d in
+      let a : some n ≡ none = sym (ap (λ x. said x .refused) (sym (ap (λ r. r .1) (accepted-outcome m call)) ∙ e)) ∙ accepted-answers (registryIn m) (sized-in m) call d in
       let z : _≡_ {A = ℕ} 0 1 = cc in
       absurd (omega arith)
   answered call n (Refused f) h e =
@@ -40,7 +40,9 @@ module _ (m : List ℕ) where
   -- A refused call leaves every word as it was.
   pub refused-unchanged : (call : Call) (n : ℕ) → memoryStep m call .1 ≡ refusal n → memoryStep m call .0 ≡ m
   unfolding memoryStep
-  refused-unchanged call n e = ap (λ o. memoryOutcome m call o .0) (answered call n (firstRefusal (memoryRefusals m call)) refl e .1)
+  refused-unchanged call n e =
+      let s = answered call n (firstRefusal (memoryRefusals m call)) refl e in
+      ap (λ o. memoryOutcome m call o .0) (s .1) ∙ ap (λ r. r .0) (refused-outcome m call (record { number = n; position = s .0 }))
 
   -- A query leaves every word as it was.
   pub query-unchanged : (call : Call) → changes call ≡ false → memoryStep m call .0 ≡ m
@@ -48,5 +50,5 @@ module _ (m : List ℕ) where
   query-unchanged call e = pick (firstRefusal (memoryRefusals m call))
     where
       pick : (o : Tested) → memoryOutcome m call o .0 ≡ m
-      pick Passed = rw e
-      pick (Refused f) = refl
+      pick Passed = ap (λ r. r .0) (accepted-outcome m call) ∙ rw e
+      pick (Refused f) = ap (λ r. r .0) (refused-outcome m call f)

@@ -8,7 +8,7 @@ use native.Mathlib.Omega.{arith}
 use lib.ListN.{length}
 use Rattle.block.specs.Entry.{Settings}
 use Rattle.model.specs.declared.Finding.{Finding}
-use Rattle.model.specs.Findings.{Cursor}
+use Rattle.model.specs.Findings.{Place}
 use Rattle.model.specs.Findings.{placeOf, nextAfter, start}
 use Rattle.model.specs.Model.{empty}
 use Rattle.model.specs.Calls.{ask, nextFinding, found, noFinding, foundAnswer}
@@ -18,15 +18,15 @@ use Rattle.steps.specs.Refinement.{Lending, onMemory, onModel, followed,
 use Rattle.steps.proofs.Outcomes.{next-answers}
 
 -- The answers of next finding from a cursor, each followed, until one says none.
-pub data WholeWalk (m : List ℕ) : Cursor → List Finding → Type 0 where
-  ends : (c : Cursor) → memoryStep m (ask (nextFinding c)) .1 ≡ noFinding → WholeWalk m c []
-  meets : (c d : Cursor) (g : Finding) (l : List Finding) → memoryStep m (ask (nextFinding c)) .1 ≡ found g d → WholeWalk m d l → WholeWalk m c (g ∷ l)
+pub data WholeWalk (m : List ℕ) : Place → List Finding → Type 0 where
+  ends : (c : Place) → memoryStep m (ask (nextFinding c)) .1 ≡ noFinding → WholeWalk m c []
+  meets : (c d : Place) (g : Finding) (l : List Finding) → memoryStep m (ask (nextFinding c)) .1 ≡ found g d → WholeWalk m d l → WholeWalk m c (g ∷ l)
 
 module _ (m : List ℕ) (formed : wellFormed m ≡ true) where
-  answer : (c : Cursor) → memoryStep m (ask (nextFinding c)) .1 ≡ foundAnswer (nextAfter (modelIn m) (bitsIn m) c)
+  answer : (c : Place) → memoryStep m (ask (nextFinding c)) .1 ≡ foundAnswer (nextAfter (modelIn m) (bitsIn m) c)
   answer c = ap (λ r. r .1) (next-answers m formed c)
 
-  walk-ends : (l : List Finding) (c : Cursor) → walkOn m (suc (length l)) c ≡ l → WholeWalk m c l
+  walk-ends : (l : List Finding) (c : Place) → walkOn m (suc (length l)) c ≡ l → WholeWalk m c l
   unfolding walkOn
   walk-ends [] c e = pick (nextAfter (modelIn m) (bitsIn m) c) (answer c) e
     where
@@ -38,11 +38,11 @@ module _ (m : List ℕ) (formed : wellFormed m ≡ true) where
           absurd (omega arith)
   walk-ends (x ∷ l) c e = pick (nextAfter (modelIn m) (bitsIn m) c) (answer c) e (walk-ends l)
     where
-      rest : Cursor → List Finding
+      rest : Place → List Finding
       rest d = walkOn m (suc (length l)) d
 
       pick : (o : Option Finding) → memoryStep m (ask (nextFinding c)) .1 ≡ foundAnswer o → followed (memoryStep m (ask (nextFinding c)) .1) rest ≡ x ∷ l
-          → ((d : Cursor) → rest d ≡ l → WholeWalk m d l) → WholeWalk m c (x ∷ l)
+          → ((d : Place) → rest d ≡ l → WholeWalk m d l) → WholeWalk m c (x ∷ l)
       pick none h e ih =
           let k : _≡_ {A = List Finding} [] (x ∷ l) = sym (ap (λ a. followed a rest) h) ∙ e in
           let z : _≡_ {A = ℕ} 0 1 = cc in

@@ -7,7 +7,7 @@ use Prim.Native.Nat.{ℕ, zero, suc, _≤_}
 use lib.ListN.{length}
 use Rattle.block.specs.Entry.{Settings}
 use Rattle.model.specs.declared.Finding.{Finding}
-use Rattle.model.specs.Findings.{Cursor}
+use Rattle.model.specs.Findings.{Place}
 use Rattle.block.specs.Reader.{settingsSaid}
 use Rattle.model.specs.Findings.{findings, start}
 use Rattle.formed.specs.Registry.{modelIn, bitsIn, wellFormed}
@@ -53,13 +53,13 @@ onModel m (other x e call ∷ l) =
 
 -- "A walk calls next finding from 0 0 0, then from each finding given, until there is none": the answers of the call itself, at
 -- most n of them; the cursor handed back is where the next call begins.
-abbrev pub followed : Answer → (Cursor → List Finding) → List Finding
+abbrev pub followed : Answer → (Place → List Finding) → List Finding
 followed a rest = elim (said a .finding) [ none ↦ [] | some p ↦ p .0 ∷ rest (p .1) ]
 
 abbrev pub modelFindings : Model → List Finding
 modelFindings m = findings m (computedBits m)
 
-unfoldable pub walkOn : List ℕ → ℕ → Cursor → List Finding
+unfoldable pub walkOn : List ℕ → ℕ → Place → List Finding
 walkOn m zero c = []
 walkOn m (suc n) c = followed (memoryStep m (ask (nextFinding c)) .1) (walkOn m n)
 

@@ -34,7 +34,7 @@ bit-cut w i true e = absurd (mathlib.Core.Bool.true≢false e)
 bit-cut w i false e = ap (λ (x : ℕ). bitAnd w (18446744073709551615 - x)) (one-shl 64 (i % 64) (rem-lt i))
 
 -- a bit of the changed word
-pub bit-with : (w i : ℕ) (v : Bool) (j : ℕ) → i < 64 → j < 64 → bit (withBit w i v) j ≡ cond (eqb j i) v (bit w j)
+bit-with : (w i : ℕ) (v : Bool) (j : ℕ) → i < 64 → j < 64 → bit (withBit w i v) j ≡ cond (eqb j i) v (bit w j)
 unfolding withBit
 bit-with w i true j hi hj = bit-or w (2 ^ i) j ∙ ap (λ (b : Bool). bit w j || b) (bit-pow i j) ∙ go (bit w j) (eqb j i)
   where

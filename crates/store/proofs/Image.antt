@@ -1,6 +1,6 @@
 -- Tables by what stands at each place, words by their bits, and the one memory that holds given contents.
 use mathlib.Core.Path.{_≡_, refl, sym, ap, ap₂, _∙_}
-use mathlib.Core.Bool.{Bool, true, false, cond}
+use mathlib.Core.Bool.{Bool, cond}
 use mathlib.Core.List.{List}
 use Prim.Native.Nat.{ℕ, zero, suc, _+_, _*_, _-_, _/_, _%_, _^_, _<_, _≤_}
 use native.Mathlib.Nat.{two-pow-succ, div-one, not-suc-le-zero, le-of-suc-le-suc}
@@ -10,7 +10,7 @@ use lib.Seq.{ext-getD}
 use borrow.Author.Tests.{lt-ltb, le-ltb}
 use Rattle.bitrow.specs.Bit.{digit, bit}
 use Rattle.bitrow.specs.Set.{one}
-use Rattle.bitrow.proofs.Words.{bit-shr, word-ext}
+use Rattle.bitrow.proofs.Words.{one-lt, digit-one, bit-shr, word-ext}
 use Rattle.store.specs.Layout.{memoryWords, rowsStart, rowCount, rowWords, rowStart, wordAt, rowBit}
 use Rattle.store.specs.Contents.{Contents, Holds, tab, ofBits, imageWord, imageOf}
 use Rattle.store.proofs.Cases.{by-ltb}
@@ -40,15 +40,7 @@ module _ {A : Type 0} where
 
 -- ---- words by their bits
 
-one-lt : (b : Bool) → one b < 2
-one-lt true = omega arith
-one-lt false = omega arith
-
-digit-one : (b : Bool) → digit (one b) ≡ b
-digit-one true = refl
-digit-one false = refl
-
-pub of-bits-lt : (n : ℕ) (f : ℕ → Bool) → ofBits n f < 2 ^ n
+of-bits-lt : (n : ℕ) (f : ℕ → Bool) → ofBits n f < 2 ^ n
 unfolding ofBits
 of-bits-lt zero f = omega arith
 of-bits-lt (suc n) f = omega (arith, of-bits-lt n (λ (i : ℕ). f (suc i)), two-pow-succ n, one-lt (f 0))
@@ -71,7 +63,7 @@ bit-of (suc n) f (suc i) h =
     bit-next (ofBits n (λ (i : ℕ). f (suc i))) (f 0) i ∙ bit-of n (λ (i : ℕ). f (suc i)) i (le-of-suc-le-suc h)
 
 -- a word is what its bits make
-pub is-packed : (n w : ℕ) (f : ℕ → Bool) → w < 2 ^ n → ((i : ℕ) → i < n → bit w i ≡ f i) → w ≡ ofBits n f
+is-packed : (n w : ℕ) (f : ℕ → Bool) → w < 2 ^ n → ((i : ℕ) → i < n → bit w i ≡ f i) → w ≡ ofBits n f
 is-packed n w f h e = word-ext n w (ofBits n f) h (of-bits-lt n f) (λ i b. e i b ∙ sym (bit-of n f i b))
 
 -- ---- the memory that holds given contents

@@ -107,7 +107,12 @@ pub column-none : (m : List ℕ) (t : Band) (b : ℕ) (values : List ℕ) → m 
 unfolding columnSet runs
 column-none m t b values = refl
 
-pub column-more : (m : List ℕ) (t : Band) (i b : ℕ) (values : List ℕ)
+column-more : (m : List ℕ) (t : Band) (i b : ℕ) (values : List ℕ)
     → bitSet (columnSet m (firstRows t i) b values) (bandRow t i) b (bitAt values i) ≡ columnSet m (firstRows t (i + 1)) b values
 unfolding columnSet runs
 column-more m t i b values = rw add-one
+
+-- a turn of the loop over the rows: l after it, where l₀ before it has the first i of them
+pub column-turn : (m : List ℕ) (t : Band) (i b : ℕ) (values l₀ l : List ℕ) (v : Bool) → l₀ ≡ columnSet m (firstRows t i) b values
+    → v ≡ bitAt values i → l ≡ bitSet l₀ (bandRow t i) b v → l ≡ columnSet m (firstRows t (i + 1)) b values
+column-turn m t i b values l₀ l v p q e = cc (column-more m t i b values)

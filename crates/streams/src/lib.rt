@@ -1,7 +1,7 @@
-// Standard input and output, read and written on where a call failed only for now.
-ghost use mathlib.Core.Bool.{true};
+// Standard input and output of `lister`, read and written on where a call failed only for now.
+ghost use mathlib.Core.Bool.{true, false};
 ghost use mathlib.Core.Path.{_≡_};
-ghost use Prim.Native.Nat.{_≤_};
+ghost use Prim.Native.Nat.{_≤_, _<_, _+_};
 ghost use lib.ListN.{length};
 ghost use Rattle.libc.specs.Io.{Moved};
 use libc::STDIN_FILENO;
@@ -32,7 +32,7 @@ fn failed_for_now() -> bool {
 }
 
 // Reads some bytes of standard input: how many, 0 at the end, below 0 where that failed.
-pub fn read(bytes: &mut [u8]) -> isize
+fn read(bytes: &mut [u8]) -> isize
     ensures { λ r. ⌜ Moved (length (now (bytes .entry))) r ⌝ }
 {
     let mut tries = 0;
@@ -45,6 +45,61 @@ pub fn read(bytes: &mut [u8]) -> isize
         tries += 1;
     }
     libc::read(STDIN_FILENO, bytes)
+}
+
+// What was read: the bytes from `at` to before `end` are still to be used; whether the input has ended, and whether a read failed.
+pub struct Input {
+    pub at: usize,
+    pub end: usize,
+    pub ended: bool,
+    pub failed: bool,
+}
+
+// The input before the first read.
+pub fn nothing_read() -> Input
+    ensures { λ r. ⌜ (r .at ≡ 0) × (r .end ≡ 0) × (r .ended ≡ false) × (r .failed ≡ false) ⌝ }
+{
+    Input {
+        at: 0,
+        end: 0,
+        ended: false,
+        failed: false,
+    }
+}
+
+// Reads, where all that came was used.
+pub fn refill(bytes: &mut [u8], input: Input) -> Input
+    requires { ⌜ (input .at ≤ input .end) × (input .end ≤ length (now bytes)) ⌝ }
+    ensures { λ r. ⌜ (r .at ≤ r .end) × (r .end ≤ length (now (bytes .exit))) × (r .failed ≡ false → r .ended ≡ false → r .at < r .end) ⌝ }
+    ensures { λ r. ⌜ (input .at < input .end → r ≡ input) × (input .ended ≡ true → r ≡ input) ⌝ }
+{
+    if input.at < input.end {
+        return input;
+    }
+    if input.ended {
+        return input;
+    }
+    let got = read(bytes);
+    let end = io::count(got, bytes);
+    Input {
+        at: 0,
+        end,
+        ended: end == 0,
+        failed: got < 0,
+    }
+}
+
+// What is left of the input where n more of its bytes were used.
+pub fn used(input: Input, n: usize) -> Input
+    requires { ⌜ input .at + n ≤ input .end ⌝ }
+    ensures { λ r. ⌜ (r .at ≡ input .at + n) × (r .end ≡ input .end) × (r .ended ≡ input .ended) × (r .failed ≡ input .failed) ⌝ }
+{
+    Input {
+        at: input.at + n,
+        end: input.end,
+        ended: input.ended,
+        failed: input.failed,
+    }
 }
 
 // Writes some of the bytes to standard output: how many, 0 where that failed.

@@ -9,7 +9,7 @@ use lib.ListN.{length}
 use Rattle.buffer.specs.Buffer.{overwritten, Puts}
 use Rattle.buffer.proofs.BufferLaws.{puts-start, puts-taken}
 use Rattle.model.specs.declared.Finding.{Finding}
-use Rattle.model.specs.Findings.{nextAfter, walk, moved, findingCode}
+use Rattle.model.specs.Findings.{Place, nextAfter, walk, moved, findingCode}
 use Rattle.model.specs.Calls.{ask, nextFinding, listFindings, Answer, refusal, found, noFinding, findingsPut, foundAnswer, written}
 use Rattle.formed.specs.Registry.{modelIn, bitsIn, wellFormed}
 use Rattle.steps.specs.MemoryStep.{memoryStep}
@@ -17,7 +17,7 @@ use Rattle.steps.proofs.Outcomes.{next-answers, findings-answers}
 use Rattle.findings.specs.declared.Cursor.{Cursor}
 use Rattle.findings.specs.declared.Step.{Step}
 use Rattle.findings.specs.declared.Step.the-variants as steps
-use Rattle.findings.specs.Steps.{Place, cursorPlace, nextStep}
+use Rattle.findings.specs.Steps.{cursorPlace, nextStep}
 use Rattle.answers.specs.declared.FindingsPut.{FindingsPut}
 use Rattle.answers.specs.declared.FindingsPut.the-variants as put
 use Rattle.answers.specs.Answers.{putAnswer, countPut}

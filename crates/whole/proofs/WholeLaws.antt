@@ -1,36 +1,22 @@
--- Every stored bit by the rules: what a rebuild leaves and an audit compares.
-use mathlib.Core.Path.{_≡_, refl, sym, ap, ap₂, _∙_, subst}
-use mathlib.Core.Bool.{Bool, true}
+-- Every stored bit by the rules: what a rebuild leaves.
+use mathlib.Core.Path.{_≡_, refl, subst}
+use mathlib.Core.Bool.{Bool}
 use mathlib.Core.List.{List}
-use Prim.Native.Nat.{ℕ, _+_, _-_, _/_, _<_, _≤_}
+use Prim.Native.Nat.{ℕ, _+_, _<_, _≤_}
 use native.Mathlib.Omega.{arith}
 use Rattle.bitrow.specs.Bit.{bitAt}
-use Rattle.bitrow.specs.Set.{equal}
 use Rattle.bitrow.proofs.Sets.{at as point}
-use Rattle.bitrow.proofs.Tests.{same-test, equal-all, equal-in}
-use Rattle.model.specs.Model.{containerSlots, policySlots, Bits, computedBits}
-use Rattle.model.specs.Registry.{Registry, computed, rebuilt, consistent, Agree, FollowsRules}
-use Rattle.model.proofs.Consistent.{consistent-exactly}
-use Rattle.store.specs.Layout.{rowCount, bandRow, rowAt}
+use Rattle.model.specs.Model.{computedBits}
+use Rattle.model.specs.Registry.{Registry, computed, rebuilt}
+use Rattle.store.specs.Layout.{rowCount, bandRow}
 use Rattle.store.specs.declared.Band.{Band}
 use Rattle.store.specs.Contents.{Holds}
 use Rattle.store.specs.Memory.{rowSet, withRow, withRows}
-use Rattle.store.proofs.Carried.{SameContents, holds-as, holds-by, holds-row, row-bit}
+use Rattle.store.proofs.Carried.{SameContents, holds-as, holds-by, holds-row}
 use Rattle.store.proofs.Columns.{rows-in, Filling, filling-next, filling-all}
-use Rattle.formed.specs.Registry.{modelIn, bitsIn, registryIn, storedBit, contentsOf, image, wellFormed}
-use Rattle.formed.specs.Tests.{between}
-use Rattle.formed.proofs.Runs.{between-at, between-all}
-use Rattle.formed.proofs.Back.{matrix-bit, selected-bit, allowed-bit, image-written}
-use Rattle.formed.proofs.Formed.{formed-holds}
-use Rattle.formed.proofs.StoredLaws.{Fit, stored-cong}
-
--- bits that agree at their slots are stored alike
-module _ (s t : Bits) (y : ℕ) (f : (a : ℕ) → a < containerSlots → s .matrix a y ≡ t .matrix a y)
-    (g : (q : ℕ) → q < policySlots → s .selected q y ≡ t .selected q y) (h : (q : ℕ) → q < policySlots → s .allowed q y ≡ t .allowed q y) where
-  stored-alike : (x : ℕ) → x < rowCount → storedBit s x y ≡ storedBit t x y
-  stored-alike x l = stored-cong s t x y (λ k. f x k) (λ k e. g ((x - containerSlots) / 2) (omega arith)) (λ k e. h ((x - containerSlots) / 2) (omega arith))
-
--- ---- what a rebuild leaves
+use Rattle.formed.specs.Registry.{storedBit, contentsOf, image}
+use Rattle.formed.proofs.Back.{image-written}
+use Rattle.formed.proofs.StoredLaws.{Fit}
 
 abbrev allRows : Band
 allRows = record { first = 0; step = 1; count = rowCount }
@@ -57,49 +43,3 @@ module _ (r : Registry) where
 
   pub rebuilt-image : {e : List ℕ} {n : ℕ} → Rebuilding e n → rowCount ≤ n → Fit e → e ≡ image (rebuilt r)
   rebuilt-image {e} g h fit = image-written (rebuilt r) e (holds-as (filling-all g h) (contentsOf (rebuilt r)) ends) fit
-
--- ---- what an audit compares
-
--- row x of a memory is by the rules of its entries
-unfoldable pub ruledRow : List ℕ → ℕ → Bool
-ruledRow m x = equal (bitAt (rowAt m x)) (storedBit (computedBits (modelIn m)) x)
-
-module _ (m : List ℕ) (ok : wellFormed m ≡ true) where
-  follows-row : FollowsRules (registryIn m) → (x : ℕ) → x < rowCount → ruledRow m x ≡ true
-  unfolding ruledRow Agree contentsOf registryIn
-  follows-row f x l = equal-all (bitAt (rowAt m x)) (storedBit (computedBits (modelIn m)) x) (λ y h.
-      row-bit m x y h ∙ formed-holds m ok .bits x y l h
-      ∙ stored-alike (bitsIn m) (computedBits (modelIn m)) y (λ a k. f .matrix a y k h) (λ q k. f .selected q y k h) (λ q k. f .allowed q y k h) x l)
-
-  -- a memory whose rows are those by the rules holds the registry rebuilt
-  rows-hold : ((x : ℕ) → x < rowCount → ruledRow m x ≡ true) → Holds m (contentsOf (rebuilt (registryIn m)))
-  unfolding ruledRow contentsOf rebuilt computed registryIn
-  rows-hold f =
-      let h = formed-holds m ok in
-      record {
-        whole = h .whole;
-        words = h .words;
-        bits = λ x y hx hy. sym (row-bit m x y hy) ∙ equal-in (bitAt (rowAt m x)) (storedBit (computedBits (modelIn m)) x) (f x hx) y hy;
-      }
-
-  rows-follow : Holds m (contentsOf (rebuilt (registryIn m))) → FollowsRules (registryIn m)
-  unfolding Agree rebuilt computed
-  rows-follow g =
-      let r = registryIn m in
-      let h = formed-holds m ok in
-      record {
-        matrix = λ a b k l. sym (matrix-bit r m h a b k l) ∙ matrix-bit (rebuilt r) m g a b k l;
-        selected = λ q c k l. sym (selected-bit r m h q c k l) ∙ selected-bit (rebuilt r) m g q c k l;
-        allowed = λ q c k l. sym (allowed-bit r m h q c k l) ∙ allowed-bit (rebuilt r) m g q c k l;
-      }
-
-  pub consistent-rows : consistent (registryIn m) ≡ between (ruledRow m) 0 rowCount
-  consistent-rows =
-      same-test _ _
-      (λ e. between-all (ruledRow m) 0 rowCount (λ x l h. follows-row (consistent-exactly (registryIn m) .0 e) x h))
-      (λ e. consistent-exactly (registryIn m) .1 (rows-follow (rows-hold (λ x h. between-at (ruledRow m) 0 rowCount e x (omega arith) h))))
-
--- `same(row_at(memory, x), row)`
-pub same-rows : (m : List ℕ) (x : ℕ) (row : List ℕ) {old : List ℕ} {t : Bool} → old ≡ rowAt m x → bitAt row ≡ storedBit (computedBits (modelIn m)) x → t ≡ equal (bitAt old) (bitAt row) → t ≡ ruledRow m x
-unfolding ruledRow
-same-rows m x row e r f = f ∙ ap₂ equal (ap bitAt e) r

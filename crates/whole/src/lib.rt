@@ -1,15 +1,15 @@
-// What is asked of the whole registry: every stored bit by the rules, as a rebuild sets it and an audit compares it.
+// The whole registry by the rules: a row of the stored bits, and the rebuild that sets every one.
 ghost use mathlib.Core.Path.{_≡_};
 ghost use mathlib.Core.Bool.{true};
 ghost use Prim.Native.Nat.{_<_};
-ghost use Rattle.model.specs.Registry.{rebuilt, consistent};
+ghost use Rattle.model.specs.Registry.{rebuilt};
 ghost use Rattle.store.specs.Layout.{rowCount};
 ghost use Rattle.formed.specs.Registry.{registryIn, image, wellFormed};
 ghost use Rattle.whole.specs.StoredRows.{StoredFrom};
 
 // Row r of the stored bits by the rules, from what is gathered for all that stand: a row of the matrix, then by turns what a policy
 // selects and what it allows.
-fn row_of_bits(
+pub fn row_of_bits(
     r: usize,
     gathered: matrix_rows::Gathered,
     selected: &[[u64; 4]; 128],
@@ -56,35 +56,4 @@ pub fn rebuild(memory: &mut [u64])
         store::set_row(memory, r, row);
         r += 1;
     }
-}
-
-// "Do all kept bits equal the rules?"
-pub fn is_consistent(memory: &[u64]) -> bool
-    requires { ⌜ wellFormed (now memory) ≡ true ⌝ }
-    ensures { λ r. ⌜ r ≡ consistent (registryIn (now (memory .entry))) ⌝ }
-{
-    let mut selected = [[0u64; 4]; 128];
-    let mut allowed = [[0u64; 4]; 128];
-    let mut outs = [[0u64; 4]; 256];
-    let mut backs = [[0u64; 4]; 256];
-    let standing = formed::containers_standing(memory);
-    let gathered = matrix_rows::gather(
-        memory,
-        standing,
-        128,
-        standing,
-        &mut selected,
-        &mut allowed,
-        &mut outs,
-        &mut backs,
-    );
-    let mut x = 0;
-    while x < store::ROW_COUNT {
-        let row = row_of_bits(x, gathered, &selected, &allowed, &outs, &backs);
-        if !row_reads::same(store::row_at(memory, x), row) {
-            return false;
-        }
-        x += 1;
-    }
-    true
 }

@@ -1,6 +1,6 @@
 -- The test picks the smaller number, as `min` does.
 use native.Mathlib.Omega.{arith}
-use Rattle.closing.specs.Closing.{linesIn}
+use Rattle.sheets.specs.Closing.{linesIn}
 use Rattle.closing.proofs.lines_in.Statement.{statement}
 use Rattle.closing.proofs.lines_in.Tie as tie
 

@@ -1,18 +1,22 @@
 -- One case for each arm of `validSettings`.
-use borrow.Author.Tests.{eq-eqb, ne-eqb}
-use Rattle.block.specs.Written.{validSettings}
+use denote.Ref.{now}
 use Rattle.formed.specs.Words.{settingsIn}
 use borrow.Author.Needs.{needs}
+use Rattle.entry_tests.proofs.Settings.{no-system, system}
 use Rattle.entry_tests.proofs.settings_ok.Statement.{statement}
 use Rattle.entry_tests.proofs.settings_ok.Tie as tie
 
 returns : tie.Need-returns
-unfolding validSettings settingsIn
-returns c = rw (eq-eqb _ _ (c .if1 .taken)) (cc)
+unfolding settingsIn
+returns c =
+    let user = c .before .before .before in
+    no-system (settingsIn (now (user .before .before .before .args .memory))) (user .in-range .ensures) (c .if1 .taken)
 
 returns-2 : tie.Need-returns-2
-unfolding validSettings settingsIn
-returns-2 c = rw (ne-eqb _ _ (c .before .if1 .left)) (cc)
+unfolding settingsIn
+returns-2 c =
+    let user = c .before .before .before .before in
+    system (settingsIn (now (user .before .before .before .args .memory))) (user .in-range .ensures) (c .in-range2 .ensures) (c .before .if1 .left)
 
 pub settings-ok-spec : {M : Type 1} → statement M
 settings-ok-spec =

@@ -1,6 +1,6 @@
 -- The sum so far is the weighted sum of the first i bytes, and too small to wrap.
 use mathlib.Core.List.{List}
-use mathlib.Core.Path.{_≡_, _∙_, ap}
+use mathlib.Core.Path.{_≡_, _∙_, ap, sym}
 use Prim.Native.Nat.{ℕ, _-_, _+_, _*_, _≤_, _%_}
 use native.Mathlib.Nat.{mul-le-mul}
 use native.Mathlib.Numerals.{add-one}
@@ -16,9 +16,9 @@ Inv-loop block sum₀ i₀ sum i = (i ≤ 510) × (sum ≤ 130050 * i) × (sum �
 abbrev μ-loop : tie.MeasureT-loop
 μ-loop block sum₀ i₀ sum i = 510 - i
 
-weighted-next : (b : List ℕ) (i : ℕ) → weighted b (i + 1) ≡ weighted b i + byteAt b i * (i + 1)
+weighted-next : (b : List ℕ) (i s x : ℕ) → s ≡ weighted b i → x ≡ byteAt b i → s + x * (i + 1) ≡ weighted b (i + 1)
 unfolding weighted
-weighted-next b i = ap (weighted b) (add-one i)
+weighted-next b i s x p q = ap (λ (k : ℕ). k + x * (i + 1)) p ∙ ap (λ (k : ℕ). weighted b i + k * (i + 1)) q ∙ sym (ap (weighted b) (add-one i))
 
 small : (c : tie.After-wide Inv-loop μ-loop) → c .wide .result * (c .before .before .before .loop .i + 1) ≤ 255 * 510
 small c = mul-le-mul {n₂ = 255} {m₂ = 510} (omega arith) (omega arith)
@@ -34,7 +34,9 @@ add-sum-2 : tie.Need-add-sum-2 Inv-loop μ-loop
 add-sum-2 c = omega (arith, small c)
 
 loop-again : tie.Need-loop-again Inv-loop μ-loop
-loop-again c = (omega arith, omega (arith, small c), cc (weighted-next (c .before .before .before .before .before .args .block .now) (c .before .before .before .loop .i)))
+loop-again c =
+    let l = c .before .before .before .loop in
+    (omega arith, omega (arith, small c), weighted-next (c .before .before .before .before .before .args .block .now) (l .i) (l .sum) _ (l .inv .2) (c .wide .ensures .0))
 
 returns : tie.Need-returns Inv-loop μ-loop
 unfolding checksum

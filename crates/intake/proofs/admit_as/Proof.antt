@@ -3,7 +3,7 @@ use mathlib.Core.Path.{refl, ap}
 use native.Mathlib.Omega.{arith}
 use Rattle.answers.specs.Answers.{admittedAnswer}
 use Rattle.buffer.proofs.BufferLaws.{puts-none}
-use Rattle.intake.proofs.BlockLaws.{admits-is}
+use Rattle.sheets.proofs.BlockLaws.{admits-is}
 use borrow.Author.Needs.{needs}
 use Rattle.intake.proofs.admit_as.Statement.{statement}
 use Rattle.intake.proofs.admit_as.Tie as tie

@@ -2,7 +2,7 @@
 use mathlib.Core.Path.{refl}
 use native.Mathlib.Omega.{arith}
 use Rattle.buffer.proofs.BufferLaws.{puts-none}
-use Rattle.intake.proofs.BlockLaws.{end-first, end-later}
+use Rattle.sheets.proofs.BlockLaws.{end-first, end-later}
 use borrow.Author.Needs.{needs}
 use Rattle.intake.proofs.end_after.Statement.{statement}
 use Rattle.intake.proofs.end_after.Tie as tie

@@ -3,7 +3,7 @@ use mathlib.Core.Path.{refl, ap}
 use native.Mathlib.Omega.{arith}
 use Rattle.answers.specs.Answers.{outcomeAnswer}
 use Rattle.buffer.proofs.BufferLaws.{puts-none}
-use Rattle.intake.proofs.BlockLaws.{opens-is}
+use Rattle.sheets.proofs.BlockLaws.{opens-is}
 use borrow.Author.Needs.{needs}
 use Rattle.intake.proofs.open_by.Statement.{statement}
 use Rattle.intake.proofs.open_by.Tie as tie

@@ -1,5 +1,5 @@
 -- The test of n picks between open and admit as `taken` does.
-use Rattle.intake.proofs.BlockLaws.{taken-first, taken-next}
+use Rattle.sheets.proofs.BlockLaws.{taken-first, taken-next}
 use borrow.Author.Needs.{needs}
 use Rattle.intake.proofs.take_block.Statement.{statement}
 use Rattle.intake.proofs.take_block.Tie as tie

@@ -2,7 +2,8 @@
 use borrow.Author.Needs.{needs}
 use denote.Ref.{now}
 use lib.ListN.{length}
-use Rattle.layouts.specs.Steps.{runsOf, unusedOf, BodyWithin, bodyChecks}
+use Rattle.layouts.specs.Steps.{runsOf, unusedOf, BodyWithin}
+use Rattle.layouts.proofs.Layouts.{body-answered}
 use Rattle.layouts.proofs.layout_test.Statement.{statement}
 use Rattle.layouts.proofs.layout_test.Tie as tie
 
@@ -22,8 +23,27 @@ unused-fault-requires : tie.Need-unused-fault-requires
 unused-fault-requires c κs = let w = inside (c .before .before .before .before .before .before) in (w .head, w .rest)
 
 returns-2 : tie.Need-returns-2
-unfolding bodyChecks runsOf unusedOf
-returns-2 c = simp (c .before .before .before .before .before .before .before .before .before .before .enum-told .given .1) (cc)
+unfolding runsOf unusedOf
+returns-2 c =
+    let d = c .before .before .before in
+    let limits = d .before .before .before .before .before .before .before .enum-told .given .1 in
+    body-answered
+    _
+    _
+    _
+    _
+    _
+    (d .before .before .before .before .before .before .before .before .before .before .args .body)
+    _
+    _
+    _
+    limits
+    (d .before .before .range-faults .ensures)
+    (d .before .order-faults .ensures)
+    (d .unused-fault .ensures)
+    (c .before .before .refuse .ensures)
+    (c .before .refuse2 .ensures)
+    (c .refuse3 .ensures)
 
 pub layout-test-spec : {M : Type 1} → statement M
 layout-test-spec =

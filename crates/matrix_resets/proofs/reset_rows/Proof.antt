@@ -1,16 +1,14 @@
 -- The rows before a are reset.
-use mathlib.Core.Path.{sym, ap, _∙_}
+use mathlib.Core.Path.{sym, _∙_}
 use Prim.Native.Nat.{_-_}
 use native.Mathlib.Omega.{arith}
 use borrow.Author.Needs.{needs}
 use Rattle.bitrow.specs.Bit.{bitAt}
-use Rattle.store.specs.Layout.{allowedRow}
 use Rattle.formed.specs.Registry.{registryIn}
 use Rattle.formed.proofs.Formed.{formed-holds}
 use Rattle.formed.proofs.Reading.{formed-whole, formed-fits}
-use Rattle.formed.proofs.StoredLaws.{selected-row, allowed-row}
-use Rattle.sets.proofs.Candidates.{one-known, empty-rows}
-use Rattle.matrix_resets.proofs.RowResets.{row-read-as, Resets, resets-none, resets-take, resets-skip, resets-all}
+use Rattle.sets.proofs.Candidates.{empty-rows}
+use Rattle.matrix_resets.proofs.RowResets.{Resets, resets-none, resets-take, resets-skip, resets-all}
 use Rattle.matrix_resets.proofs.reset_rows.Statement.{statement}
 use Rattle.matrix_resets.proofs.reset_rows.Tie as tie
 
@@ -20,27 +18,12 @@ Inv-loop memory₀ q rows columns outs backs gathered a₀ memory a = Resets (re
 abbrev μ-loop : tie.MeasureT-loop
 μ-loop memory₀ q rows columns outs backs gathered a₀ memory a = 256 - a
 
--- the function's start, from where policy q's rows are read, and from where all is gathered
-abbrev from-rows : tie.After-row-at2 Inv-loop μ-loop → tie.Start Inv-loop μ-loop
-from-rows c = c .before .before .before .before .before
+-- the function's start, from where all is gathered
+abbrev from-gathered : tie.After-gather-rows Inv-loop μ-loop → tie.Start Inv-loop μ-loop
+from-gathered c = c .before .before .before .before .before
 
-abbrev from-gathered : tie.After-gather Inv-loop μ-loop → tie.Start Inv-loop μ-loop
-from-gathered c = from-rows (c .before .before .before .before .before .before)
-
-row-at-requires : tie.Need-row-at-requires Inv-loop μ-loop
-row-at-requires c κs = let p = c .before .before .pre in (formed-whole _ (p .0 .0), omega arith)
-
-row-at-requires-2 : tie.Need-row-at-requires-2 Inv-loop μ-loop
-row-at-requires-2 c κs = let p = c .before .before .before .before .pre in (formed-whole _ (p .0 .0), omega arith)
-
-gather-requires : tie.Need-gather-requires Inv-loop μ-loop
-gather-requires c κs =
-    let y = c .before .before .before .before .before in
-    let x = y .before .before in
-    let p = from-rows y .pre in
-    let s = ap bitAt (x .row-at .ensures) ∙ selected-row _ _ (p .1 .0) ∙ p .1 .1 .selected in
-    let a = ap bitAt (row-read-as (from-rows y .args .memory .now) _ (allowedRow (from-rows y .args .q)) (y .row-at2 .ensures) (omega arith)) ∙ allowed-row _ _ (p .1 .0) ∙ p .1 .1 .allowed in
-    (p .0, (one-known (empty-rows 128) (empty-rows 128) _ _ (p .1 .0) s a, (empty-rows 256, empty-rows 256)))
+gather-rows-requires : tie.Need-gather-rows-requires Inv-loop μ-loop
+gather-rows-requires c κs = let p = c .before .before .before .before .pre in (p .0, (p .1 .0, p .1 .1, empty-rows 256, empty-rows 256))
 
 loop-holds : tie.Need-loop-holds Inv-loop μ-loop
 loop-holds c = let ok = from-gathered c .pre .0 .0 in resets-none _ _ _ (formed-holds _ ok) (formed-fits _ ok)
@@ -59,7 +42,7 @@ loop-again c =
     let t = h .before .before in
     let l = t .before in
     let e = sym (h .before .has .ensures) ∙ h .if1 .taken in
-    resets-take _ _ _ (l .loop .inv) (t .loop-test .taken) e (r .reset-row .ensures) (f .line-from .ensures .is (l .before .gather .ensures) (λ s. e))
+    resets-take _ _ _ (l .loop .inv) (t .loop-test .taken) e (r .reset-row .ensures) (l .before .gather-rows .ensures .row (f .line-from .ensures) e)
     (λ k. omega (arith, c .slice-known2 .given k))
 
 loop-again-2 : tie.Need-loop-again-2 Inv-loop μ-loop
@@ -77,18 +60,7 @@ reset-rows-spec =
     (tie.spec
     Inv-loop
     μ-loop
-    (λ c. search needs)
-    (λ c. search needs)
-    row-at-requires
-    (λ c. search needs)
-    (λ c. search needs)
-    (λ c. search needs)
-    row-at-requires-2
-    (λ c. search needs)
-    (λ c. search needs)
-    (λ c. search needs)
-    (λ c. search needs)
-    gather-requires
+    gather-rows-requires
     loop-holds
     (λ c. search needs)
     (λ c κs. search needs)

@@ -3,7 +3,7 @@ use mathlib.Core.Path.{refl, sym, _∙_}
 use native.Mathlib.Omega.{arith}
 use lib.Seq.{length-take-le}
 use Rattle.buffer.proofs.BufferLaws.{puts-none}
-use Rattle.pieces.proofs.PieceLaws.{does-as, take-last, take-on, with-more, with-end, with-block}
+use Rattle.sheets.proofs.PieceLaws.{does-as, take-last, take-on, with-more, with-end, with-block}
 use borrow.Author.Needs.{needs}
 use Rattle.pieces.proofs.take.Statement.{statement}
 use Rattle.pieces.proofs.take.Tie as tie

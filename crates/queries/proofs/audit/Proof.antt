@@ -1,4 +1,4 @@
--- Past the test of the memory the answer is what `whole::is_consistent` promises.
+-- Past the test of the memory the answer is what `audit::is_consistent` promises.
 use mathlib.Core.Path.{_≡_, refl, sym, _∙_}
 use mathlib.Core.Bool.{true}
 use Rattle.formed.specs.Registry.{wellFormed}

@@ -2,8 +2,8 @@
 use mathlib.Core.Path.{subst}
 use Prim.Native.Nat.{_<_}
 use native.Mathlib.Omega.{arith}
-use Rattle.report.specs.Step.{startedIn}
-use Rattle.report.proofs.StepLaws.{step-take, step-count, step-list, step-none}
+use Rattle.sheets.specs.Step.{startedIn}
+use Rattle.sheets.proofs.StepLaws.{step-take, step-count, step-list, step-none}
 use borrow.Author.Needs.{needs}
 use Rattle.report.proofs.step.Statement.{statement}
 use Rattle.report.proofs.step.Tie as tie

@@ -2,9 +2,7 @@
 use mathlib.Core.Path.{sym, _∙_}
 use borrow.Author.Needs.{needs}
 use borrow.Author.Tests.{not-true, not-false}
-use Rattle.bitrow.specs.Bit.{bitAt}
-use Rattle.sets.specs.Sets.{bits}
-use Rattle.rules.proofs.Unions.{line-meet, line-free}
+use Rattle.rules.proofs.Unions.{line-meet-these, line-free}
 use Rattle.rules.proofs.row_by_rules.Statement.{statement}
 use Rattle.rules.proofs.row_by_rules.Tie as tie
 
@@ -16,8 +14,7 @@ returns c =
 returns-2 : tie.Need-returns-2
 returns-2 c =
     let t = c .before .before .before .before .before in
-    let k = t .before .before .before .args in
-    cc (line-meet 128 (bitAt (k .sides .standing)) (bitAt (k .sides .out)) (bitAt (k .sides .back)) (bits (k .selected .now)) (bits (k .allowed .now)) (k .a) (sym (t .before .has .ensures) ∙ not-false _ (t .if1 .left)))
+    line-meet-these 128 _ _ _ _ _ _ (sym (t .before .has .ensures) ∙ not-false _ (t .if1 .left)) (c .before .before .before .outward .ensures) (c .inward .ensures)
 
 pub row-by-rules-spec : {M : Type 1} → statement M
 row-by-rules-spec = tie.close (tie.spec (λ c κs. search needs) (λ c κs. search needs) returns (λ c κs. search needs) (λ c κs. search needs) returns-2)

@@ -5,7 +5,7 @@ use native.Mathlib.Omega.{arith}
 use lib.ListN.{length}
 use Rattle.store.specs.Layout.{rowCount, bandRow}
 use Rattle.store.specs.Memory.{columnSet}
-use Rattle.store.proofs.Stores.{row-below, length-bit, firstRows, column-none, column-more}
+use Rattle.store.proofs.Stores.{row-below, length-bit, firstRows, column-none, column-turn}
 use Rattle.bitrow.proofs.Arrays.{bit-of-row}
 use borrow.Author.Needs.{needs}
 use Rattle.store.proofs.set_column.Statement.{statement}
@@ -41,7 +41,7 @@ loop-again c =
     let x = c .before .before .before .before .before .before .before .before .before .before .before .args in
     let l = c .before .before .before .before .before .before .before .before .before .loop in
     let e = c .before .before .set-bit .ensures in
-    (ap length e ∙ length-bit (l .memory) _ (x .b) _ ∙ l .inv .0, omega arith, cc (e, column-more (x .memory .now) (x .band) (l .i) (x .b) (x .t4), bit-of-row (x .t4) (l .i)))
+    (ap length e ∙ length-bit (l .memory) _ (x .b) _ ∙ l .inv .0, omega arith, column-turn (x .memory .now) (x .band) (l .i) (x .b) (x .t4) (l .memory) _ _ (l .inv .2) (c .before .before .before .before .bit-of .ensures ∙ bit-of-row (x .t4) (l .i)) e)
 
 returns : tie.Need-returns Inv-loop μ-loop
 returns c =

@@ -1,0 +1,2 @@
+-- The laws behind the proofs of `clearing`.
+pub mod SlotLaws

@@ -1,0 +1,33 @@
+-- By the rules the bits of a free slot are clear, so empty rows are stored.
+use mathlib.Core.Path.{refl}
+use native.Mathlib.Omega.{arith}
+use Rattle.formed.proofs.Reading.{formed-whole}
+use Rattle.clearing.proofs.SlotLaws.{taken}
+use borrow.Author.Needs.{needs}
+use Rattle.clearing.proofs.take_container.Statement.{statement}
+use Rattle.clearing.proofs.take_container.Tie as tie
+
+set-slot-requires : tie.Need-set-slot-requires
+set-slot-requires c κs = omega (arith, formed-whole _ (c .before .before .pre .0))
+
+store-bits-requires : tie.Need-store-bits-requires
+store-bits-requires c κs = omega (arith, formed-whole _ (c .before .before .before .before .before .before .before .pre .0))
+
+returns : tie.Need-returns
+returns c =
+    let a = c .before .before in
+    let b = a .before .before .before .before .before in
+    let p = b .before .before .before in
+    taken _ (p .pre .0) _ (p .pre .1) _ (a .before .before .none .ensures) refl (b .set-slot .ensures) (a .store-bits .ensures) (λ k. omega (arith, c .slice-known3 .given k))
+
+pub take-container-spec : {M : Type 1} → statement M
+take-container-spec =
+    tie.close
+    (tie.spec
+    (λ c. search needs)
+    (λ c. search needs)
+    set-slot-requires
+    (λ c κs. search needs)
+    store-bits-requires
+    (λ c. search needs)
+    returns)

@@ -1,0 +1,44 @@
+// What clears: a container that goes, and the registry that an open leaves.
+ghost use mathlib.Core.Path.{_≡_};
+ghost use mathlib.Core.Bool.{true};
+ghost use mathlib.Core.Option.{none};
+ghost use Prim.Native.Nat.{_<_};
+ghost use Rattle.block.specs.Reading.{settingsOf};
+ghost use Rattle.model.specs.Registry.{changeContainer, opened};
+ghost use Rattle.store.specs.Layout.{Whole};
+ghost use Rattle.formed.specs.Registry.{registryIn, image, wellFormed};
+use model::ContainerSlot;
+
+// The container at a slot removed: by the rules every bit of a free slot is clear.
+pub fn take_container(memory: &mut [u64], slot: ContainerSlot)
+    requires { ⌜ (wellFormed (now memory) ≡ true) × (slot .0 < 256) ⌝ }
+    ensures { λ u. ⌜ now (memory .exit) ≡ image (changeContainer (registryIn (now (memory .entry))) (slot .0) none) ⌝ }
+{
+    let c = slot.0;
+    let at = store::CONTAINERS + store::CONTAINER_WORDS * c;
+    store::set_slot(memory, at, store::CONTAINER_WORDS, [0; store::POLICY_WORDS]);
+    let clear = bitrow::none();
+    container_bits::store_bits(memory, c, clear, clear, clear, clear);
+}
+
+// An accepted open: no entry and no bit, under the settings.
+pub fn start(memory: &mut [u64], settings: block::Settings)
+    requires { ⌜ Whole (now memory) ⌝ }
+    ensures { λ u. ⌜ now (memory .exit) ≡ image (opened (settingsOf settings)) ⌝ }
+{
+    store::clear(memory);
+    let words = [
+        settings.user_key,
+        settings.system_key,
+        settings.system_value,
+        0,
+        0,
+        0,
+        0,
+        0,
+        0,
+        0,
+        0,
+    ];
+    store::set_slot(memory, 0, store::SETTINGS_WORDS, words);
+}

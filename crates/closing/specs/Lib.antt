@@ -1,2 +1,0 @@
--- What the contracts of `closing` cite.
-pub mod Closing

@@ -1,3 +1,0 @@
--- What the contracts of `intake` cite.
-pub mod Told
-pub mod Blocks

@@ -1,0 +1,2 @@
+-- The laws of open.
+pub mod OpenLaws

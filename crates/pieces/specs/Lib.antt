@@ -1,3 +1,0 @@
--- What the contracts of `pieces` cite.
-pub mod Left
-pub mod Pieces

@@ -1,0 +1,2 @@
+-- The laws behind the proofs of `samples`.
+pub mod SampleLaws

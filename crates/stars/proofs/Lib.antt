@@ -1,0 +1,2 @@
+-- The starred instances hold.
+pub mod Stars

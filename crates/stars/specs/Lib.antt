@@ -1,0 +1,2 @@
+-- The starred instances, as one table.
+pub mod Stars

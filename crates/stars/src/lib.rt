@@ -1,0 +1,1 @@
+// The starred instances of document 01: definitions and theorems alone.
