@@ -2,12 +2,12 @@
 use mathlib.Core.Path.{_≡_, sym, ap, ap₂, _∙_}
 use mathlib.Core.Bool.{Bool, true}
 use mathlib.Core.List.{List}
-use Prim.Native.Nat.{ℕ, _-_, _/_, _<_}
+use Prim.Native.Nat.{ℕ, _<_}
 use native.Mathlib.Omega.{arith}
 use Rattle.bitrow.specs.Bit.{bitAt}
 use Rattle.bitrow.specs.Set.{equal}
 use Rattle.bitrow.proofs.Tests.{same-test, equal-all, equal-in}
-use Rattle.model.specs.Model.{containerSlots, policySlots, Bits, computedBits}
+use Rattle.model.specs.Model.{computedBits}
 use Rattle.model.specs.Registry.{computed, rebuilt, consistent, Agree, FollowsRules}
 use Rattle.model.proofs.Consistent.{consistent-exactly}
 use Rattle.store.specs.Layout.{rowCount, rowAt}
@@ -20,12 +20,6 @@ use Rattle.formed.proofs.Back.{matrix-bit, selected-bit, allowed-bit}
 use Rattle.formed.proofs.Formed.{formed-holds}
 use Rattle.formed.proofs.StoredLaws.{stored-cong}
 
--- bits that agree at their slots are stored alike
-module _ (s t : Bits) (y : ℕ) (f : (a : ℕ) → a < containerSlots → s .matrix a y ≡ t .matrix a y)
-    (g : (q : ℕ) → q < policySlots → s .selected q y ≡ t .selected q y) (h : (q : ℕ) → q < policySlots → s .allowed q y ≡ t .allowed q y) where
-  stored-alike : (x : ℕ) → x < rowCount → storedBit s x y ≡ storedBit t x y
-  stored-alike x l = stored-cong s t x y (λ k. f x k) (λ k e. g ((x - containerSlots) / 2) (omega arith)) (λ k e. h ((x - containerSlots) / 2) (omega arith))
-
 -- row x of a memory is by the rules of its entries
 unfoldable pub ruledRow : List ℕ → ℕ → Bool
 ruledRow m x = equal (bitAt (rowAt m x)) (storedBit (computedBits (modelIn m)) x)
@@ -35,7 +29,7 @@ module _ (m : List ℕ) (ok : wellFormed m ≡ true) where
   unfolding ruledRow Agree contentsOf registryIn
   follows-row f x l = equal-all (bitAt (rowAt m x)) (storedBit (computedBits (modelIn m)) x) (λ y h.
       row-bit m x y h ∙ formed-holds m ok .bits x y l h
-      ∙ stored-alike (bitsIn m) (computedBits (modelIn m)) y (λ a k. f .matrix a y k h) (λ q k. f .selected q y k h) (λ q k. f .allowed q y k h) x l)
+      ∙ stored-cong (bitsIn m) (computedBits (modelIn m)) x y l (λ a k _. f .matrix a y k h) (λ q k _. f .selected q y k h) (λ q k _. f .allowed q y k h))
 
   -- a memory whose rows are those by the rules holds the registry rebuilt
   rows-hold : ((x : ℕ) → x < rowCount → ruledRow m x ≡ true) → Holds m (contentsOf (rebuilt (registryIn m)))

@@ -13,7 +13,7 @@ pub fn is_consistent(memory: &[u64]) -> bool
     let mut allowed = [[0u64; 4]; 128];
     let mut outs = [[0u64; 4]; 256];
     let mut backs = [[0u64; 4]; 256];
-    let standing = formed::containers_standing(memory);
+    let standing = stored::containers_standing(memory);
     let gathered = matrix_rows::gather(
         memory,
         standing,
@@ -27,7 +27,7 @@ pub fn is_consistent(memory: &[u64]) -> bool
     let mut x = 0;
     while x < store::ROW_COUNT {
         let row = whole::row_of_bits(x, gathered, &selected, &allowed, &outs, &backs);
-        if !row_reads::same(store::row_at(memory, x), row) {
+        if !row_reads::same(access::row_at(memory, x), row) {
             return false;
         }
         x += 1;

@@ -16,7 +16,7 @@ use lib.Seq.{getD-set-same, getD-set-other, ext-getD}
 use borrow.Author.Tests.{eq-eqb, ne-eqb, eqb-true, not-true}
 use Rattle.bitrow.specs.Bit.{bit, bitAt, Row}
 use Rattle.bitrow.specs.Set.{nothing, under, insert, remove, meet, join, less, Bounded, hasSome, equal, size, Lowest}
-use Rattle.bitrow.proofs.Sets.{at, nothing-at, under-in, under-out, bounded-nothing, bounded-under, bounded-meet-left, bounded-meet-right, bounded-join, bounded-less, bounded-ext}
+use Rattle.bitrow.proofs.Sets.{point, nothing-at, under-in, under-out, bounded-nothing, bounded-under, bounded-meet-left, bounded-meet-right, bounded-join, bounded-less, bounded-ext}
 use Rattle.bitrow.proofs.Tests.{same-test, hasSome-clear, hasSome-absent, equal-in, equal-self}
 use Rattle.bitrow.proofs.Sizes.{size-cong, size-add, size-le}
 use Rattle.bitrow.proofs.Words.{bit-and, bit-or, bit-not, bit-zero, bit-ones, bit-pow, one-shl, bit-shr, bit-below, word-ext, trailing, ones-size}
@@ -96,7 +96,7 @@ low-row i a b c d p q r e f g h =
     (four-words _ (word 0 a (omega arith) (omega arith) e) (word 1 b (omega arith) p f) (word 2 c (omega arith) q g) (word 3 d (omega arith) r h))
   where
     word : (k w : ℕ) {n : ℕ} → k < 4 → n ≡ i - k * 64 → bit w ≡ meet (under n) (under 64) → (m : ℕ) → m < 64 → bit w m ≡ meet (under i) (under 256) (k * 64 + m)
-    word k w l q e m h = at e m ∙ ap₂ (λ (x y : Bool). x && y) (ap (λ (x : ℕ). under x m) q ∙ under-shift (k * 64) i m) (under-in 64 m h ∙ sym (under-in 256 (k * 64 + m) (omega arith)))
+    word k w l q e m h = point e m ∙ ap₂ (λ (x y : Bool). x && y) (ap (λ (x : ℕ). under x m) q ∙ under-shift (k * 64) i m) (under-in 64 m h ∙ sym (under-in 256 (k * 64 + m) (omega arith)))
 
 -- ---- a row made of two rows word by word
 
@@ -162,7 +162,7 @@ insert-bit w i = fun-ext (λ m. bit-or w (bitMask i) m ∙ or-comm (bit w m) (bi
 -- i put into word i / 64, and `r[i / 64] &= !(1 << (i % 64))`
 pub insert-row : (r : List ℕ) (i v : ℕ) → length r ≡ 4 → i < 256 → bit v ≡ insert (i % 64) (bit (getD r (i / 64) 0)) → bitAt (set r (i / 64) v) ≡ insert i (bitAt r)
 unfolding insert
-insert-row r i v n h e = fun-ext (set-row (λ x y. x || y) (λ b. refl) r i v (omega arith) (λ m l. at e m))
+insert-row r i v n h e = fun-ext (set-row (λ x y. x || y) (λ b. refl) r i v (omega arith) (λ m l. point e m))
 
 pub remove-row : (r : List ℕ) (i : ℕ) → Row r → i < 256 → bitAt (set r (i / 64) (bitAnd (getD r (i / 64) 0) (full - bitMask i))) ≡ remove i (bitAt r)
 unfolding remove

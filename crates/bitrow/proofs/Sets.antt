@@ -11,8 +11,8 @@ use Rattle.bitrow.specs.Set.{nothing, under, atLeast, insert, remove, me
 -- ---- what is in each
 
 -- a set's equation, at a number
-pub at : {s t : ℕ → Bool} → s ≡ t → (j : ℕ) → s j ≡ t j
-at e j = ap (λ (u : ℕ → Bool). u j) e
+pub point : {s t : ℕ → Bool} → s ≡ t → (j : ℕ) → s j ≡ t j
+point e j = ap (λ (u : ℕ → Bool). u j) e
 
 pub nothing-at : (j : ℕ) → nothing j ≡ false
 unfolding nothing

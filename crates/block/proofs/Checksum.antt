@@ -15,7 +15,7 @@ use Rattle.block.specs.Fault.{unless, firstBetween}
 use Rattle.block.specs.Bytes.{byteAt, numberAt, weighted, checksum}
 use Rattle.block.specs.Checksum.{Passes, OneByte, TwoBytes}
 use Rattle.block.proofs.Faults.{between-none}
-use Rattle.block.proofs.Weights.{below, over, same-weight}
+use Rattle.block.proofs.Weights.{even-below, over, same-weight}
 
 -- ---- 65521 is no product of a number below 256 and one up to 510
 
@@ -80,7 +80,7 @@ one-byte x y bx by i h d px py = ⊎-elim inside last (decide i 510)
   where
     inside : i < 510 → ⊥
     inside l =
-        let e = over x y i 510 0 0 l (λ k m n. d .elsewhere k (λ q. omega arith)) (below x y i (λ k m. d .elsewhere k (λ q. omega arith))) in
+        let e = over x y i 510 0 0 l (λ k m n. d .elsewhere k (λ q. omega arith)) (even-below x y i (λ k m. d .elsewhere k (λ q. omega arith))) in
         let m = same-rest x y (d .elsewhere 510 (λ q. omega arith)) (d .elsewhere 511 (λ q. omega arith)) px py in
         differ (weighted x 510) (weighted y 510) (byteAt x i) (byteAt y i) (i + 1) (bx i) (by i) (d .at) (omega arith) (omega arith) (omega arith) m
 
@@ -94,7 +94,7 @@ one-byte x y bx by i h d px py = ⊎-elim inside last (decide i 510)
 
 pub two-bytes : TwoBytes
 two-bytes x y bx i j ij h d px py =
-    let e = over x y i j 0 0 ij (λ k l m. d .elsewhere k (λ q. omega arith) (λ q. omega arith)) (below x y i (λ k l. d .elsewhere k (λ q. omega arith) (λ q. omega arith))) in
+    let e = over x y i j 0 0 ij (λ k l m. d .elsewhere k (λ q. omega arith) (λ q. omega arith)) (even-below x y i (λ k l. d .elsewhere k (λ q. omega arith) (λ q. omega arith))) in
     let f = over x y j 510 _ _ h (λ k l m. d .elsewhere k (λ q. omega arith) (λ q. omega arith)) e in
     let m = same-rest x y (d .elsewhere 510 (λ q. omega arith) (λ q. omega arith)) (d .elsewhere 511 (λ q. omega arith) (λ q. omega arith)) px py in
     differ (weighted x 510) (weighted y 510) (byteAt x j) (byteAt x i) (j - i) (bx j) (bx i) (λ q. d .unequal (sym q)) (omega arith) (omega arith)

@@ -40,13 +40,13 @@ module _ (b : List ℕ) where
       let q : suc n - 1 ≡ n = omega arith in
       rw q (by-fours (riseFault b) (λ p m. risingAfter (numberAt b (p - 4)) (labelsAt b p m)) at (λ p. refl) (λ p m. simp (clear-unless, add-sub-cancel)) n 1 ∙ rw add-sub-cancel)
 
-  pub length-labels : (p n : ℕ) → length (labelsAt b p n) ≡ n
-  length-labels p zero = refl
-  length-labels p (suc n) = ap suc (length-labels (p + 4) n)
+  pub length-labels-at : (p n : ℕ) → length (labelsAt b p n) ≡ n
+  length-labels-at p zero = refl
+  length-labels-at p (suc n) = ap suc (length-labels-at (p + 4) n)
 
   pub valid-clear : (limit at n : ℕ) → validLabels limit (labelsAt b at n) ≡ (leb n limit && (clear (rangeFault b at n) && clear (orderFault b at n)))
   unfolding validLabels
-  valid-clear limit at n = simp (length-labels, range-clear, order-clear)
+  valid-clear limit at n = simp (length-labels-at, range-clear, order-clear)
 
 -- ---- labels, written and read
 

@@ -24,9 +24,9 @@ module _ (x y : List ℕ) where
       let q : m + (n - m) ≡ n = omega arith in
       subst (λ (k : ℕ). Even k u v) q (along (n - m) m u v (λ k i j. h k i (omega arith)) e)
 
-  pub below : (n : ℕ) → ((k : ℕ) → k < n → byteAt x k ≡ byteAt y k) → Even n 0 0
+  pub even-below : (n : ℕ) → ((k : ℕ) → k < n → byteAt x k ≡ byteAt y k) → Even n 0 0
   unfolding weighted
-  below n h = to 0 n 0 0 (omega arith) (λ k l m. h k m) refl
+  even-below n h = to 0 n 0 0 (omega arith) (λ k l m. h k m) refl
 
   -- past i, where they need not agree
   pub over : (i n u v : ℕ) → i < n → ((k : ℕ) → i < k → k < n → byteAt x k ≡ byteAt y k) → Even i u v → Even n (u + byteAt y i * (i + 1)) (v + byteAt x i * (i + 1))
@@ -36,4 +36,4 @@ module _ (x y : List ℕ) where
       to (suc i) n _ _ l h p
 
   pub same-weight : (n : ℕ) → ((k : ℕ) → k < n → byteAt x k ≡ byteAt y k) → weighted x n ≡ weighted y n
-  same-weight n h = let e : Even n 0 0 = below n h in omega arith
+  same-weight n h = let e : Even n 0 0 = even-below n h in omega arith

@@ -108,15 +108,15 @@ module _ (m : List ℕ) where
   abbrev pub policyTest : ℕ → Tested
   policyTest = slotTest policySlots (freeIn m policiesStart policyWords)
 
-  pub container-free : (c : ℕ) → c < containerSlots → free (modelIn m .containers) c ≡ freeIn m containersStart containerWords c
+  pub container-free-in : (c : ℕ) → c < containerSlots → free (modelIn m .containers) c ≡ freeIn m containersStart containerWords c
   unfolding containerIn freeIn
-  container-free c h =
+  container-free-in c h =
       free-at (modelIn m .containers) c (rw (sized-in m .containers) h) ∙ ap isFree (container-slot m c h)
       ∙ free-if (eqb (wordAt m (containerStart c)) 0) (partIn m (containerStart c))
 
-  policy-free : (q : ℕ) → q < policySlots → free (modelIn m .policies) q ≡ freeIn m policiesStart policyWords q
+  policy-free-in : (q : ℕ) → q < policySlots → free (modelIn m .policies) q ≡ freeIn m policiesStart policyWords q
   unfolding policyIn freeIn
-  policy-free q h =
+  policy-free-in q h =
       free-at (modelIn m .policies) q (rw (sized-in m .policies) h) ∙ ap isFree (policy-slot m q h)
       ∙ free-if (eqb (wordAt m (policyStart q)) 0) (policyAt m q)
 
@@ -146,10 +146,10 @@ module _ (m : List ℕ) where
           → memoryStep m call ≡ (m, refusal (f .number))
       container-refused c o e =
           step-refused m formed call f
-          (ap firstRefusal o ∙ slot-checks containerSlots (freeIn m containersStart containerWords) c (modelIn m .containers) (container-free c) ∙ e)
+          (ap firstRefusal o ∙ slot-checks containerSlots (freeIn m containersStart containerWords) c (modelIn m .containers) (container-free-in c) ∙ e)
 
       pub policy-refused : (q : ℕ) → refusals (registryIn m) call ≡ slotChecks policySlots (modelIn m .policies) q → policyTest q ≡ Refused f
           → memoryStep m call ≡ (m, refusal (f .number))
       policy-refused q o e =
           step-refused m formed call f
-          (ap firstRefusal o ∙ slot-checks policySlots (freeIn m policiesStart policyWords) q (modelIn m .policies) (policy-free q) ∙ e)
+          (ap firstRefusal o ∙ slot-checks policySlots (freeIn m policiesStart policyWords) q (modelIn m .policies) (policy-free-in q) ∙ e)

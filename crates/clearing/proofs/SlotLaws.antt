@@ -12,7 +12,7 @@ use lib.Seq.{getD-set-same, getD-set-other}
 use Rattle.bitrow.specs.Bit.{bitAt}
 use Rattle.bitrow.specs.Set.{nothing}
 use Rattle.bitrow.proofs.Sets.{nothing-at}
-use Rattle.bitrow.proofs.Sets.{at as point}
+use Rattle.bitrow.proofs.Sets.{point}
 use Rattle.block.specs.Entry.{Container, Policy, Settings}
 use Rattle.model.specs.Table.{on, at}
 use Rattle.model.specs.Model.{containerSlots, policySlots, Model, Bits, empty, withContainer, matrixBit, selectedBit, allowedBit, computedBits}
@@ -146,7 +146,7 @@ module _ (r : Registry) (c : ℕ) (hc : c < containerSlots) (t : Bits) {row colu
       let x = selectedRow q in
       point (column-out k3 allowedBand c (bitAt allowed) x (λ i h e. omega arith) ∙ column-in k2 selectedBand c (bitAt selected) x q (omega arith) hq refl) y
       ∙ ap (cond (eqb y c) (bitAt selected q)) (point (column-out k1 matrixBand c (bitAt column) x (λ i h e. omega arith) ∙ row-out k0 c (bitAt row) x (λ e. omega arith)) y)
-      ∙ crossing c (t .selected) (r .bits .selected) q y (bitAt selected q) (k0 .bits x y) (g .selected q hq) (point (stored-selected (r .bits) q) y)
+      ∙ crossing c (t .selected) (r .bits .selected) q y (bitAt selected q) (k0 .bits x y) (g .selected q hq) (point (stored-selected (r .bits) q hq) y)
 
   allowed-new : (q y : ℕ) → q < policySlots → k4 .bits (allowedRow q) y ≡ new .allowed q y
   unfolding changed contentsOf
@@ -155,15 +155,11 @@ module _ (r : Registry) (c : ℕ) (hc : c < containerSlots) (t : Bits) {row colu
       point (column-in k3 allowedBand c (bitAt allowed) x q (omega arith) hq refl) y
       ∙ ap (cond (eqb y c) (bitAt allowed q)) (point (column-out k2 selectedBand c (bitAt selected) x (λ i h e. omega arith)
       ∙ column-out k1 matrixBand c (bitAt column) x (λ i h e. omega arith) ∙ row-out k0 c (bitAt row) x (λ e. omega arith)) y)
-      ∙ crossing c (t .allowed) (r .bits .allowed) q y (bitAt allowed q) (k0 .bits x y) (g .allowed q hq) (point (stored-allowed (r .bits) q) y)
+      ∙ crossing c (t .allowed) (r .bits .allowed) q y (bitAt allowed q) (k0 .bits x y) (g .allowed q hq) (point (stored-allowed (r .bits) q hq) y)
 
   stored-new : (x y : ℕ) → x < rowCount → y < containerSlots → k4 .bits x y ≡ storedBit new x y
   stored-new x y hx hy =
-      let q = (x - containerSlots) / 2 in
-      by-table (λ t. k4 .bits x y ≡ t) new x y
-      (λ l. matrix-new x y l hy)
-      (λ l e. let d : x ≡ selectedRow q = omega arith in ap (λ (z : ℕ). k4 .bits z y) d ∙ selected-new q y (omega arith))
-      (λ l e. let d : x ≡ allowedRow q = omega arith in ap (λ (z : ℕ). k4 .bits z y) d ∙ allowed-new q y (omega arith))
+      by-table (λ z b. k4 .bits z y ≡ b) new y (λ a l. matrix-new a y l hy) (λ q l. selected-new q y l) (λ q l. allowed-new q y l) x hx
 
   words-new : k4 .words ≡ k0 .words
   words-new =
@@ -212,10 +208,10 @@ module _ (m : List ℕ) (ok : wellFormed m ≡ true) (c : ℕ) (hc : c < contain
   unfolding withContainer
   free-slot = let n = containers-size m in getD-set-same (held .model .containers) c none none (omega arith)
 
-  pub taken : (clear : List ℕ) {d e ws : List ℕ} → bitAt clear ≡ nothing → ws ≡ replicate policyWords 0
+  pub container-taken : (clear : List ℕ) {d e ws : List ℕ} → bitAt clear ≡ nothing → ws ≡ replicate policyWords 0
       → d ≡ slotSet m (containerStart c) containerWords ws → e ≡ bitsSet d c clear clear clear clear → Fit e → e ≡ image (changeContainer held c none)
   unfolding changeContainer
-  taken clear {d} {e} {ws} z w v q fit =
+  container-taken clear {d} {e} {ws} z w v q fit =
       let size : containerWords ≤ length ws = omega (arith, ap length w, length-replicate {A = ℕ} policyWords 0) in
       let placing : Holds d (contentsOf (placed held c none)) = holds-by (holds-placed held c hc (containers-size m) none ws size
       (λ k h. ap (λ (l : List ℕ). getD l k 0) w ∙ getD-replicate policyWords k 0 0 (omega arith)) (formed-holds m ok)) v in
@@ -251,13 +247,15 @@ module _ (s : Settings) where
       (λ l h. out l ∙ sym (ap (λ (o : Option Container). containerWord o ((k - containersStart) % containerWords)) (none-free containerSlots ((k - containersStart) / containerWords))))
       (λ h. out (omega arith) ∙ sym (ap (λ (o : Option Policy). policyWord o ((k - policiesStart) % policyWords)) (none-free policySlots ((k - policiesStart) / policyWords))))
 
-  begun-bit : (x y : ℕ) → begun .bits x y ≡ storedBit (opened s .bits) x y
+  begun-bit : (x y : ℕ) → x < rowCount → begun .bits x y ≡ storedBit (opened s .bits) x y
   unfolding opened blank
-  begun-bit x y = ap (λ (f : ℕ → ℕ → Bool). f x y) (slot-bits blank 0 settingsSize (startWords s)) ∙ by-table (λ t. false ≡ t) (opened s .bits) x y (λ _. refl) (λ _ _. refl) (λ _ _. refl)
+  begun-bit x y hx =
+      ap (λ (f : ℕ → ℕ → Bool). f x y) (slot-bits blank 0 settingsSize (startWords s))
+      ∙ by-table (λ _ b. false ≡ b) (opened s .bits) y (λ _ _. refl) (λ _ _. refl) (λ _ _. refl) x hx
 
   begun-same : SameContents begun (contentsOf (opened s))
   unfolding contentsOf opened
-  begun-same = record { words = λ k l. begun-word k; bits = λ x y hx hy. begun-bit x y }
+  begun-same = record { words = λ k l. begun-word k; bits = λ x y hx hy. begun-bit x y hx }
 
   pub started : (m : List ℕ) → Whole m → {d e : List ℕ} → d ≡ cleared m → e ≡ slotSet d 0 settingsSize (startWords s) → Fit e → e ≡ image (opened s)
   started m whole {d} {e} v q fit =

@@ -16,7 +16,7 @@ pub fn take_container(memory: &mut [u64], slot: ContainerSlot)
 {
     let c = slot.0;
     let at = store::CONTAINERS + store::CONTAINER_WORDS * c;
-    store::set_slot(memory, at, store::CONTAINER_WORDS, [0; store::POLICY_WORDS]);
+    access::set_slot(memory, at, store::CONTAINER_WORDS, [0; store::POLICY_WORDS]);
     let clear = bitrow::none();
     container_bits::store_bits(memory, c, clear, clear, clear, clear);
 }
@@ -26,7 +26,7 @@ pub fn start(memory: &mut [u64], settings: block::Settings)
     requires { ⌜ Whole (now memory) ⌝ }
     ensures { λ u. ⌜ now (memory .exit) ≡ image (opened (settingsOf settings)) ⌝ }
 {
-    store::clear(memory);
+    access::clear(memory);
     let words = [
         settings.user_key,
         settings.system_key,
@@ -40,5 +40,5 @@ pub fn start(memory: &mut [u64], settings: block::Settings)
         0,
         0,
     ];
-    store::set_slot(memory, 0, store::SETTINGS_WORDS, words);
+    access::set_slot(memory, 0, store::SETTINGS_WORDS, words);
 }

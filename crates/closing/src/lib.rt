@@ -6,10 +6,10 @@ ghost use Rattle.steps.specs.MemoryStep.{memoryStep};
 ghost use Rattle.model.specs.Calls.{ask, listFindings};
 ghost use Rattle.findings.specs.Steps.{cursorPlace};
 ghost use Rattle.sheets.specs.Told.{Tells};
-ghost use Rattle.sheets.specs.Closing.{countStep, linesIn, listing, listStep};
+ghost use Rattle.sheets.specs.Closing.{countStep, listing, listStep};
+use answers::Counted;
+use answers::FindingsPut;
 use findings::Cursor;
-use registry::Counted;
-use registry::FindingsPut;
 use sheets::State;
 use sheets::Told;
 
@@ -18,7 +18,7 @@ pub fn tell_counts(memory: &[u64], out: &mut [u8]) -> Told
     requires { ⌜ 128 ≤ length (now out) ⌝ }
     ensures { λ r. ⌜ Tells (countStep (now (memory .entry))) (now (out .entry)) (now (out .exit)) r ⌝ }
 {
-    let counted = registry::counts(memory);
+    let counted = queries::counts(memory);
     match counted {
         Counted::Refused(_) => Told {
             state: State::Finished,
@@ -38,22 +38,13 @@ pub fn tell_counts(memory: &[u64], out: &mut [u8]) -> Told
     }
 }
 
-// How many findings a step puts at most, in a buffer of so many bytes.
-fn lines_in(room: usize) -> usize
-    ensures { λ r. ⌜ r ≡ linesIn room ⌝ }
-    ensures { λ r. ⌜ (r ≤ 2048) × (23 * r ≤ room) ⌝ }
-{
-    let lines = room / 23;
-    if lines < 2048 { lines } else { 2048 }
-}
-
 // Puts the lines of the findings after the cursor, as many as there are numbers lent for them.
 fn tell_findings_by(memory: &[u64], numbers: &mut [u64], out: &mut [u8], cursor: Cursor) -> Told
     requires { ⌜ 23 * length (now numbers) ≤ length (now out) ⌝ }
     ensures { λ r. ⌜ Tells (listing (length (now (numbers .entry))) (memoryStep (now (memory .entry)) (ask (listFindings (cursorPlace cursor) (length (now (numbers .entry))))) .1)) (now (out .entry)) (now (out .exit)) r ⌝ }
 {
     let wanted = numbers.len();
-    let answer = registry::findings(memory, cursor, numbers);
+    let answer = walks::findings(memory, cursor, numbers);
     match answer {
         FindingsPut::Refused(_) => Told {
             state: State::Finished,
@@ -87,6 +78,6 @@ pub fn tell_findings(memory: &[u64], out: &mut [u8], cursor: Cursor) -> Told
     ensures { λ r. ⌜ Tells (listStep (now (memory .entry)) (length (now (out .entry))) cursor) (now (out .entry)) (now (out .exit)) r ⌝ }
 {
     let mut numbers = no_numbers();
-    let lines = lines_in(out.len());
+    let lines = cuts::lines_in(out.len());
     tell_findings_by(memory, &mut numbers[..lines], out, cursor)
 }

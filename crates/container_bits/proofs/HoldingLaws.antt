@@ -6,7 +6,7 @@ use Prim.Native.Nat.{ℕ, _+_, _%_, _<_}
 use Rattle.bitrow.specs.Bit.{bit, bitAt}
 use Rattle.bitrow.specs.Set.{under, insert}
 use Rattle.bitrow.proofs.Sets.{under-in, meet-at}
-use Rattle.bitrow.proofs.Sets.{at as point}
+use Rattle.bitrow.proofs.Sets.{point}
 use Rattle.formed.proofs.Standing.{meet-in, word-none, word-skip, word-take, two-words}
 use Rattle.container_bits.specs.ContainerBits.{holdingSet}
 

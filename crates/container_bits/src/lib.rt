@@ -65,8 +65,8 @@ pub fn store_bits(
     requires { ⌜ Whole (now memory) × (c < 256) ⌝ }
     ensures { λ u. ⌜ now (memory .exit) ≡ bitsSet (now (memory .entry)) c row column selected allowed ⌝ }
 {
-    store::set_row(memory, c, row);
-    store::set_column(memory, store::MATRIX, c, column);
-    store::set_column(memory, store::SELECTED, c, selected);
-    store::set_column(memory, store::ALLOWED, c, allowed);
+    access::set_row(memory, c, row);
+    access::set_column(memory, store::MATRIX, c, column);
+    access::set_column(memory, store::SELECTED, c, selected);
+    access::set_column(memory, store::ALLOWED, c, allowed);
 }

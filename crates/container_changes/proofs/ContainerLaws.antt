@@ -9,7 +9,7 @@ use native.Mathlib.Omega.{arith}
 use lib.ListN.{length, getD, set, length-set}
 use lib.Seq.{getD-set-same, getD-set-other, set-getD}
 use Rattle.bitrow.specs.Bit.{bitAt}
-use Rattle.bitrow.proofs.Sets.{at as point}
+use Rattle.bitrow.proofs.Sets.{point}
 use Rattle.block.specs.declared.Labels.{Labels}
 use Rattle.block.specs.Entry.{Container, Settings, ingress, egress, container}
 use Rattle.block.specs.Written.{validEntry}
@@ -17,13 +17,13 @@ use Rattle.block.specs.Reading.{word, padded, packed}
 use Rattle.model.specs.Table.{Table, on, at, stands}
 use Rattle.model.specs.Model.{containerSlots, policySlots, Model, Bits, withContainer, computedBits}
 use Rattle.model.specs.Registry.{Registry, changeContainer}
+use Rattle.model.proofs.Lists.{both}
 use Rattle.store.specs.Layout.{containerWords, containerStart}
 use Rattle.store.specs.Memory.{slotSet}
 use Rattle.store.proofs.Carried.{holds-by}
 use Rattle.formed.specs.Words.{labelWord, partWord, containerWord}
 use Rattle.formed.specs.Registry.{modelIn, registryIn, image, validContainer, Acceptable, wellFormed}
 use Rattle.formed.specs.Labels.{unpacked}
-use Rattle.formed.proofs.Tests.{both}
 use Rattle.formed.proofs.Parts.{labels-few}
 use Rattle.formed.proofs.Slots.{valid-container}
 use Rattle.formed.proofs.Back.{registry-image, image-written}

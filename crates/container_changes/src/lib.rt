@@ -16,7 +16,7 @@ fn refresh(memory: &mut [u64], c: usize)
 {
     let mut selected = [[0u64; 4]; 128];
     let mut allowed = [[0u64; 4]; 128];
-    let standing = formed::containers_standing(memory);
+    let standing = stored::containers_standing(memory);
     sets::fill_sets(memory, standing, 128, &mut selected, &mut allowed);
     let lines = reach::sides::lines_of(memory, standing, &selected, &allowed, c);
     let selecting = container_bits::holding(&selected, c);
@@ -35,6 +35,6 @@ pub fn put_container(memory: &mut [u64], slot: ContainerSlot, labels: block::Lab
     let c = slot.0;
     let words = container_bits::slot_words(labels);
     let at = store::CONTAINERS + store::CONTAINER_WORDS * c;
-    store::set_slot(memory, at, store::CONTAINER_WORDS, words);
+    access::set_slot(memory, at, store::CONTAINER_WORDS, words);
     refresh(memory, c);
 }

@@ -1,6 +1,6 @@
 -- Tests over the standing slots of a table as tests of sets.
 use mathlib.Core.Path.{_≡_, refl, sym, ap, ap₂, _∙_}
-use mathlib.Core.Bool.{Bool, true, false, not, _&&_, _||_, and-eq-true-iff, false≢true}
+use mathlib.Core.Bool.{Bool, true, false, not, _&&_, _||_, false≢true}
 use mathlib.Core.List.{List, [], _∷_}
 use Prim.Native.Nat.{ℕ, _<_}
 use lib.Dec.{eqb}
@@ -8,10 +8,7 @@ use borrow.Author.Tests.{eqb-true, eq-eqb}
 use Rattle.bitrow.specs.Set.{part}
 use Rattle.bitrow.proofs.Tests.{same-test, part-all, part-in}
 use Rattle.model.specs.Table.{Table, any, all, stands, standing}
-use Rattle.model.proofs.Lists.{or-right, elem, elem-standing}
-
-pub halves : (a b : Bool) → (a && b) ≡ true → (a ≡ true) × (b ≡ true)
-halves a b = and-eq-true-iff a b .0
+use Rattle.model.proofs.Lists.{both, or-right, elem, elem-standing}
 
 -- ---- lists
 
@@ -25,8 +22,8 @@ all-out f [] c h e = absurd (false≢true e)
 all-out f (x ∷ l) c h e = pick (eqb c x) refl (all-out f l c) e
   where
     pick : (t : Bool) → eqb c x ≡ t → (all f l ≡ true → elem c l ≡ true → f c ≡ true) → (t || elem c l) ≡ true → f c ≡ true
-    pick true q ih k = ap f (eqb-true c x q) ∙ halves (f x) (all f l) h .0
-    pick false q ih k = ih (halves (f x) (all f l) h .1) k
+    pick true q ih k = ap f (eqb-true c x q) ∙ both (f x) (all f l) h .0
+    pick false q ih k = ih (both (f x) (all f l) h .1) k
 
 pub not-any : (f : ℕ → Bool) (l : List ℕ) → not (any f l) ≡ all (λ c. not (f c)) l
 not-any f [] = refl

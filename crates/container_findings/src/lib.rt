@@ -81,7 +81,7 @@ fn user_cross(memory: &[u64], containers: [u64; 4], a: usize) -> [u64; 4]
     requires { ⌜ AtContainer (now memory) containers a ⌝ }
     ensures { λ r. ⌜ bitAt r ≡ shownAt (now (memory .entry)) 3 a ⌝ }
 {
-    let reached = store::row_at(memory, a);
+    let reached = access::row_at(memory, a);
     let others = bitrow::without(bitrow::both(containers, reached), a);
     let word = entries::word_under(
         memory,
@@ -107,7 +107,7 @@ fn system_isolation(memory: &[u64], containers: [u64; 4], a: usize) -> [u64; 4]
     if !entries::carries(memory, store::CONTAINERS + store::CONTAINER_WORDS * a, word) {
         return bitrow::none();
     }
-    let reached = store::row_at(memory, a);
+    let reached = access::row_at(memory, a);
     bitrow::except(bitrow::without(containers, a), reached)
 }
 

@@ -13,7 +13,7 @@ pub fn pairs(memory: &[u64]) -> u64
     let mut n = 0u64;
     let mut a = 0;
     while a < store::CONTAINER_SLOTS {
-        n += row_reads::count(store::row_at(memory, a)) as u64;
+        n += row_reads::count(access::row_at(memory, a)) as u64;
         a += 1;
     }
     n
@@ -24,7 +24,7 @@ pub fn count_containers(memory: &[u64]) -> u64
     requires { ⌜ Whole (now memory) ⌝ }
     ensures { λ r. ⌜ r ≡ length (containersOf (modelIn (now (memory .entry)))) ⌝ }
 {
-    row_reads::count(formed::containers_standing(memory)) as u64
+    row_reads::count(stored::containers_standing(memory)) as u64
 }
 
 // The number of standing policies.
@@ -32,5 +32,5 @@ pub fn count_policies(memory: &[u64]) -> u64
     requires { ⌜ Whole (now memory) ⌝ }
     ensures { λ r. ⌜ r ≡ length (policiesOf (modelIn (now (memory .entry)))) ⌝ }
 {
-    row_reads::count(formed::policies_standing(memory)) as u64
+    row_reads::count(stored::policies_standing(memory)) as u64
 }

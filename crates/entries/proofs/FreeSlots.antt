@@ -38,9 +38,9 @@ module _ (s : ℕ → Bool) (i n : ℕ) where
   first-end h = let e : n - i ≡ 0 = omega arith in ap (firstOf s i) e
 
 module _ (m : List ℕ) (start words i : ℕ) where
-  pub free-at : wordAt m (start + words * i) ≡ 0 → freeIn m start words i ≡ true
+  pub zero-is-free : wordAt m (start + words * i) ≡ 0 → freeIn m start words i ≡ true
   unfolding freeIn
-  free-at e = eq-eqb (wordAt m (start + words * i)) 0 e
+  zero-is-free e = eq-eqb (wordAt m (start + words * i)) 0 e
 
   pub taken-at : (wordAt m (start + words * i) ≡ 0 → ⊥) → freeIn m start words i ≡ false
   unfolding freeIn

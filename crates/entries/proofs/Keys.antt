@@ -13,11 +13,11 @@ use Rattle.bitrow.proofs.Tests.{same-test}
 use Rattle.model.specs.Table.{any, on, stands}
 use Rattle.model.specs.Rules.{sameLabel, carries}
 use Rattle.model.specs.Findings.{sameUser}
+use Rattle.model.proofs.Lists.{both}
 use Rattle.store.specs.Layout.{wordAt, containerStart}
 use Rattle.store.proofs.Cases.{by-eqb}
 use Rattle.formed.specs.Words.{labelWord, partIn, settingsIn}
 use Rattle.formed.specs.Registry.{modelIn}
-use Rattle.formed.proofs.Tests.{both}
 use Rattle.formed.proofs.Parts.{LabelBounds, label-bounds}
 use Rattle.entries.specs.Entries.{wordUnder, userWord}
 use Rattle.entries.proofs.Trials.{container-at}

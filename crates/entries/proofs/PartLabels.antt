@@ -11,10 +11,10 @@ use Rattle.block.specs.Entry.{Label, Container}
 use Rattle.bitrow.specs.Set.{some}
 use Rattle.bitrow.proofs.Tests.{same-test}
 use Rattle.model.specs.Rules.{sameLabel, carries, matches}
+use Rattle.model.proofs.Lists.{both}
 use Rattle.store.specs.Layout.{wordAt}
 use Rattle.store.proofs.Cases.{by-eqb}
 use Rattle.formed.specs.Words.{labelIn, labelsIn, partIn}
-use Rattle.formed.proofs.Tests.{both}
 use Rattle.formed.proofs.Parts.{label-word}
 use Rattle.entries.specs.Entries.{wordUnder}
 
@@ -48,8 +48,8 @@ module _ (m : List ℕ) where
   pub labels-next : (i end : ℕ) → i < end → labelsFrom i end ≡ labelIn (wordAt m i) ∷ labelsFrom (i + 1) end
   labels-next i end h = let e : end - i ≡ suc (end - (i + 1)) = omega arith in ap (labelsIn m i) e
 
-  pub labels-done : (i end : ℕ) → end ≤ i → labelsFrom i end ≡ []
-  labels-done i end h = let e : end - i ≡ 0 = omega arith in ap (labelsIn m i) e
+  pub labels-end : (i end : ℕ) → end ≤ i → labelsFrom i end ≡ []
+  labels-end i end h = let e : end - i ≡ 0 = omega arith in ap (labelsIn m i) e
 
   part-labels : (p : ℕ) → partIn m p ≡ labelsFrom (p + 1) (p + wordAt m p)
   unfolding partIn
@@ -73,7 +73,7 @@ module _ (m : List ℕ) where
 
     pub carries-done : end ≤ i → carries (labelsFrom i end) (labelIn w) ≡ false
     unfolding carries
-    carries-done h = ap (λ ls. carries ls (labelIn w)) (labels-done i end h)
+    carries-done h = ap (λ ls. carries ls (labelIn w)) (labels-end i end h)
 
   -- the n words after a part's header, of which those past its labels are zero: w is a label of the part if it is one of them
   module _ (p w n : ℕ) (pos : 0 < w) (few : wordAt m p ≤ n + 1) (past : (k : ℕ) → p + wordAt m p ≤ k → k < p + (n + 1) → wordAt m k ≡ 0) where
@@ -123,7 +123,7 @@ module _ (m : List ℕ) where
 
     pub matches-done : end ≤ i → matches (labelsFrom i end) c ≡ true
     unfolding matches
-    matches-done h = ap (λ ls. matches ls c) (labels-done i end h)
+    matches-done h = ap (λ ls. matches ls c) (labels-end i end h)
 
   -- the first of them under the key k
 
@@ -145,4 +145,4 @@ module _ (m : List ℕ) where
 
     pub under-done : end ≤ i → wordUnder k (labelsFrom i end) ≡ 0
     unfolding wordUnder
-    under-done h = ap (wordUnder k) (labels-done i end h)
+    under-done h = ap (wordUnder k) (labels-end i end h)

@@ -1,6 +1,6 @@
 -- The trial of a part, and the rows that it gives.
 use mathlib.Core.Path.{_≡_, refl, sym, ap, ap₂, _∙_, fun-ext, subst}
-use mathlib.Core.Bool.{Bool, true, false, _&&_, cond}
+use mathlib.Core.Bool.{false≢true, Bool, true, false, _&&_, cond}
 use mathlib.Core.List.{List, [], _∷_}
 use mathlib.Core.Option.{Option, none, some}
 use Prim.Native.Nat.{ℕ, _+_, _*_, _-_, _%_, _^_, _<_, _≤_}
@@ -13,7 +13,7 @@ use Rattle.block.specs.Entry.{Container}
 use Rattle.bitrow.specs.Bit.{bit, bitAt}
 use Rattle.bitrow.proofs.Words.{bit-above}
 use Rattle.bitrow.proofs.Rows.{word-bit}
-use Rattle.bitrow.proofs.Sets.{at as point}
+use Rattle.bitrow.proofs.Sets.{point}
 use Rattle.bitrow.specs.Set.{nothing, under, insert, remove, meet, join, Bounded, Lowest}
 use Rattle.bitrow.proofs.Sets.{meet-at, under-in, under-out, meet-next, meet-under, bounded-meet-left, nothing-meet, nothing-join, join-nothing, join-comm, insert-join, insert-remove, remove-meet, remove-absent}
 use Rattle.model.specs.Table.{on, at, stands}
@@ -25,7 +25,6 @@ use Rattle.store.proofs.Cases.{by-eqb}
 use Rattle.store.proofs.Image.{getD-tab, tab-beyond}
 use Rattle.formed.specs.Words.{partIn, containerIn, policyAt, policyIn}
 use Rattle.formed.specs.Registry.{modelIn}
-use Rattle.formed.proofs.Tests.{clash}
 use Rattle.formed.proofs.Standing.{meet-in, word-zero, words-row}
 use Rattle.entries.specs.Entries.{PartWithin, SlotAt, SlotsFormed, SlotsFrom, matching, matchingFrom, trialSet}
 
@@ -159,10 +158,10 @@ module _ {A : Type 0} (n : ℕ) (head : ℕ → ℕ) (f : ℕ → A) where
       go (no h) = subst P (sym (tab-beyond n slot i none (omega arith))) a
 
   at-slot : (i : ℕ) → stands (tab n slot) i ≡ true → at (tab n slot) i ≡ some (f i)
-  at-slot i = by-slot (λ o. on (λ x. true) o ≡ true → o ≡ some (f i)) i (λ e. clash e) (λ h e. refl)
+  at-slot i = by-slot (λ o. on (λ x. true) o ≡ true → o ≡ some (f i)) i (λ e. absurd (false≢true e)) (λ h e. refl)
 
   slot-below : (i : ℕ) → stands (tab n slot) i ≡ true → i < n
-  slot-below i = by-slot (λ o. on (λ x. true) o ≡ true → i < n) i (λ e. clash e) (λ h e. h)
+  slot-below i = by-slot (λ o. on (λ x. true) o ≡ true → i < n) i (λ e. absurd (false≢true e)) (λ h e. h)
 
   slot-on : (g : A → Bool) (i : ℕ) → (stands (tab n slot) i && g (f i)) ≡ on g (at (tab n slot) i)
   slot-on g i = by-slot (λ o. (on (λ x. true) o && g (f i)) ≡ on g o) i refl (λ h. refl)

@@ -1,53 +1,13 @@
-// The bytes of a block and its checksum, and the searches for the first position at fault.
+// The searches for the first position at fault.
 ghost use mathlib.Core.Path.{_≡_};
 ghost use Prim.Native.Nat.{_+_, _*_, _≤_, _<_};
-ghost use lib.Dec.{eqb};
 ghost use lib.ListN.{length};
-ghost use Rattle.block.specs.Bytes.{numberAt, checksum};
-ghost use Rattle.block.specs.Fault.{unless, orElse, clear};
+ghost use Rattle.block.specs.Fault.{unless, orElse};
 ghost use Rattle.block.specs.Refusal.{refuse};
 ghost use Rattle.block.specs.Reader.{within, labelFault, rangeFault, riseFault, orderFault, zeroFault};
 use block::Fault;
 use block::Refusal;
 use block::Tested;
-
-// ---- bytes
-
-pub fn wide(x: u8) -> u64
-    ensures { λ r. ⌜ (r ≡ x) × (r ≤ 255) ⌝ }
-{
-    x as u64
-}
-
-pub fn size(x: u8) -> usize
-    ensures { λ r. ⌜ (r ≡ x) × (r ≤ 255) ⌝ }
-{
-    x as usize
-}
-
-// Two bytes, the high one first.
-pub fn number_at(block: &[u8], at: usize) -> u64
-    requires { ⌜ at + 1 < length (now block) ⌝ }
-    ensures { λ r. ⌜ (r ≡ numberAt (now (block .entry)) at) × (r ≤ 65535) ⌝ }
-{
-    wide(block[at]) * 256 + wide(block[at + 1])
-}
-
-// The checksum that bytes 0 to 509 call for.
-pub fn checksum(block: &[u8]) -> u64
-    requires { ⌜ length (now block) ≡ 512 ⌝ }
-    ensures { λ r. ⌜ r ≡ checksum (now (block .entry)) ⌝ }
-{
-    let mut sum: u64 = 0;
-    let mut i: usize = 0;
-    while i < 510 {
-        sum += wide(block[i]) * (i as u64 + 1);
-        i += 1;
-    }
-    sum % 65521
-}
-
-// ---- faults
 
 // A fault at position p, unless the test holds.
 pub fn unless(test: bool, p: usize) -> Fault
@@ -78,8 +38,8 @@ fn label_fault(block: &[u8], p: usize) -> Fault
     requires { ⌜ p + 4 ≤ length (now block) ⌝ }
     ensures { λ r. ⌜ r ≡ labelFault (now (block .entry)) p ⌝ }
 {
-    let key = number_at(block, p);
-    let value = number_at(block, p + 2);
+    let key = block_bytes::number_at(block, p);
+    let value = block_bytes::number_at(block, p + 2);
     or_else(
         unless(within(1, 64, key), p),
         unless(within(1, 65535, value), p + 2),
@@ -107,8 +67,8 @@ fn rise_fault(block: &[u8], p: usize) -> Fault
     requires { ⌜ (4 ≤ p) × (p + 2 ≤ length (now block)) ⌝ }
     ensures { λ r. ⌜ r ≡ riseFault (now (block .entry)) p ⌝ }
 {
-    let before = number_at(block, p - 4);
-    let key = number_at(block, p);
+    let before = block_bytes::number_at(block, p - 4);
+    let key = block_bytes::number_at(block, p);
     unless(before < key, p)
 }
 
@@ -128,27 +88,12 @@ pub fn order_fault(block: &[u8], at: usize, n: usize) -> Fault
     Fault::Nowhere
 }
 
-// The bytes from `from` on and before `to`, joined bit by bit: 0 exactly if each of them is. A loop that always runs to
-// its end becomes vector code.
-fn joined(block: &[u8], from: usize, to: usize) -> u8
-    requires { ⌜ to ≤ length (now block) ⌝ }
-    ensures { λ r. ⌜ eqb r 0 ≡ clear (zeroFault (now (block .entry)) from to) ⌝ }
-{
-    let mut bits: u8 = 0;
-    let mut at: usize = from;
-    while at < to {
-        bits |= block[at];
-        at += 1;
-    }
-    bits
-}
-
 // The first byte that is not zero, looked for only where there is one.
 pub fn zero_fault(block: &[u8], from: usize, to: usize) -> Fault
     requires { ⌜ to ≤ length (now block) ⌝ }
     ensures { λ r. ⌜ r ≡ zeroFault (now (block .entry)) from to ⌝ }
 {
-    if joined(block, from, to) == 0 {
+    if block_bytes::joined(block, from, to) == 0 {
         return Fault::Nowhere;
     }
     let mut i: usize = from;

@@ -67,8 +67,8 @@ impl Cursor {
         ensures { λ r. ⌜ Puts (now (list .entry)) 0 (map findingCode (walk (nextAfter (modelIn (now (memory .entry))) (bitsIn (now (memory .entry)))) (length (now (list .entry))) (cursorPlace self))) (now (list .exit)) (r .count) ⌝ }
         ensures { λ r. ⌜ cursorPlace (r .cursor) ≡ moved (cursorPlace self) (walk (nextAfter (modelIn (now (memory .entry))) (bitsIn (now (memory .entry)))) (length (now (list .entry))) (cursorPlace self)) ⌝ }
     {
-        let containers = formed::containers_standing(memory);
-        let policies = formed::policies_standing(memory);
+        let containers = stored::containers_standing(memory);
+        let policies = stored::policies_standing(memory);
         let mut kind = self.kind as usize;
         let mut a = self.a as usize;
         let mut from = self.b as usize + 1;

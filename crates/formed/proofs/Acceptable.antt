@@ -18,7 +18,8 @@ use Rattle.store.proofs.Image.{length-tab}
 use Rattle.formed.specs.Words.{containerIn, policyIn}
 use Rattle.formed.specs.Registry.{modelIn, bitWithin, bitsIn, registryIn, freeOr, validContainer, validPolicy, ofStanding, acceptable, Acceptable}
 use Rattle.model.proofs.Consistent.{all-below, below-all}
-use Rattle.formed.proofs.Tests.{both, implies, implied, all-each, each-all}
+use Rattle.model.proofs.Lists.{both}
+use Rattle.formed.proofs.Tests.{implies, implied, all-each, each-all}
 
 module _ (m n : ℕ) (s t : ℕ → Bool) (f : ℕ → ℕ → Bool) where
   -- bits that are set are bits of standing slots

@@ -1,6 +1,6 @@
 -- A memory that holds the contents of an acceptable registry says that registry; so does the registry's image.
 use mathlib.Core.Path.{_≡_, refl, sym, ap, _∙_, fun-ext}
-use mathlib.Core.Bool.{Bool, true, false, _&&_, cond}
+use mathlib.Core.Bool.{false≢true, Bool, true, false, _&&_, cond}
 use mathlib.Core.List.{List}
 use mathlib.Core.Option.{none}
 use Prim.Native.Nat.{ℕ, zero, suc, _+_, _-_, _/_, _%_, _^_, _<_, _≤_}
@@ -8,7 +8,7 @@ use native.Mathlib.Omega.{arith}
 use lib.Dec.{eqb, ltb, leb}
 use lib.ListN.{length, getD, List·getD-eq-default}
 use borrow.Author.Tests.{leb-true, eqb-true}
-use Rattle.bitrow.proofs.Sets.{at as point}
+use Rattle.bitrow.proofs.Sets.{point}
 use Rattle.block.specs.Entry.{Settings}
 use Rattle.block.specs.Reader.{within}
 use Rattle.block.specs.Written.{validSettings}
@@ -16,14 +16,14 @@ use Rattle.block.proofs.Checks.{within-bounds}
 use Rattle.model.specs.Table.{Table, on, at, stands}
 use Rattle.model.specs.Model.{containerSlots, policySlots}
 use Rattle.model.specs.Registry.{Registry}
+use Rattle.model.proofs.Lists.{both}
 use Rattle.store.specs.Layout.{settingsSize, containersStart, containerWords, policiesStart, policyWords, memoryWords, rowsStart, rowCount, containerStart, policyStart, selectedRow, allowedRow, wordAt, rowBit}
 use Rattle.store.specs.Contents.{Holds, tab}
 use Rattle.store.proofs.Cases.{by-ltb}
 use Rattle.store.proofs.Image.{is-tab, holds-image, image-holds, image-length}
-use Rattle.store.proofs.Image.{image-fits as image-words-fit}
+use Rattle.store.proofs.Image.{image-words-fit}
 use Rattle.formed.specs.Words.{settingsWord, containerWord, policyWord, settingsIn, containerIn, policyIn}
 use Rattle.formed.specs.Registry.{modelIn, bitWithin, bitsIn, registryIn, entryWord, storedBit, contentsOf, image, Acceptable}
-use Rattle.formed.proofs.Tests.{clash, both}
 use Rattle.formed.proofs.StoredLaws.{word-settings, by-part, slot-container, slot-policy, stored-matrix, stored-selected, stored-allowed}
 use Rattle.formed.proofs.Slots.{Words, container-back, policy-back, container-small, policy-small}
 
@@ -31,7 +31,7 @@ use Rattle.formed.proofs.Slots.{Words, container-back, policy-back, con
 
 stands-below : {A : Type 0} (t : Table A) (i : ℕ) → stands t i ≡ true → i < length t
 stands-below t i h =
-    by-ltb (λ u. i < length t) i (length t) (λ l. l) (λ g. clash (ap (on (λ x. true)) (sym (List·getD-eq-default t none g)) ∙ h))
+    by-ltb (λ u. i < length t) i (length t) (λ l. l) (λ g. absurd (false≢true (ap (on (λ x. true)) (sym (List·getD-eq-default t none g)) ∙ h)))
 
 -- a table that is read, where bits of no slot are clear
 table-back : (m : List ℕ) (n : ℕ) (row : ℕ → ℕ) (f : ℕ → ℕ → Bool) → ((x y : ℕ) → x < n → y < containerSlots → rowBit m (row x) y ≡ f x y)
@@ -70,10 +70,10 @@ module _ (r : Registry) (m : List ℕ) (h : Holds m (contentsOf r)) where
   matrix-bit a b ha hb = stored-bit a b (omega arith) hb ∙ point (stored-matrix (r .bits) a ha) b
 
   pub selected-bit : (q c : ℕ) → q < policySlots → c < containerSlots → rowBit m (selectedRow q) c ≡ r .bits .selected q c
-  selected-bit q c hq hc = stored-bit (selectedRow q) c (omega arith) hc ∙ point (stored-selected (r .bits) q) c
+  selected-bit q c hq hc = stored-bit (selectedRow q) c (omega arith) hc ∙ point (stored-selected (r .bits) q hq) c
 
   pub allowed-bit : (q c : ℕ) → q < policySlots → c < containerSlots → rowBit m (allowedRow q) c ≡ r .bits .allowed q c
-  allowed-bit q c hq hc = stored-bit (allowedRow q) c (omega arith) hc ∙ point (stored-allowed (r .bits) q) c
+  allowed-bit q c hq hc = stored-bit (allowedRow q) c (omega arith) hc ∙ point (stored-allowed (r .bits) q hq) c
 
 -- ---- the registry is read back
 

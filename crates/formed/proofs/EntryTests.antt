@@ -12,13 +12,13 @@ use borrow.Author.Tests.{ltb-true, leb-true, lt-ltb, le-ltb, le-leb, eqb-true, e
 use Rattle.block.specs.Entry.{Label, Settings, ingress, egress}
 use Rattle.block.specs.Reader.{within, directionOf}
 use Rattle.block.specs.Written.{directionNumber, inRange, allInRange, risingAfter, rising, validLabels, validEntry}
+use Rattle.model.proofs.Lists.{both}
 use Rattle.store.specs.Layout.{containerWords, policyWords, selectOffset, allowOffset, containerStart, policyStart, wordAt}
 use Rattle.store.proofs.Cases.{by-ltb}
 use Rattle.formed.specs.Words.{labelWord, partWord, containerWord, policyWord, labelIn, labelsIn, partIn, containerIn, policyAt, policyIn}
 use Rattle.formed.specs.Registry.{validContainer, validPolicy}
 use Rattle.formed.specs.Tests.{_and_, choose, zeros, labelOk, labelsOk, labelsBetween, partOk, containerOk, policyOk}
-use Rattle.formed.proofs.Tests.{both}
-use Rattle.formed.proofs.Parts.{label-word, label-bounds, length-labels, labels-few}
+use Rattle.formed.proofs.Parts.{label-word, label-bounds, length-labels-in, labels-few}
 use Rattle.formed.proofs.Slots.{Words, first-word, direction-small}
 use Rattle.formed.proofs.Runs.{and-left, and-right, and-passes, between-at, between-all}
 
@@ -78,7 +78,7 @@ words-at m (suc n) s (suc i) h = words-at m n (s + 1) i (le-of-suc-le-suc h) ∙
 module _ (m : List ℕ) (from : ℕ) where
   part-length : 0 < wordAt m from → suc (length (partIn m from)) ≡ wordAt m from
   unfolding partIn
-  part-length h = omega (arith, length-labels m (from + 1) (wordAt m from - 1))
+  part-length h = omega (arith, length-labels-in m (from + 1) (wordAt m from - 1))
 
   -- a word of the part is a label's, or past the last label
   part-word : (i : ℕ) → i < wordAt m from - 1 → partWord (partIn m from) (suc i) ≡ wordAt m (from + suc i)
@@ -89,7 +89,7 @@ module _ (m : List ℕ) (from : ℕ) where
   unfolding partIn partWord
   past-word i h =
       let ls = labelsIn m (from + 1) (wordAt m from - 1) in
-      List·getD-eq-default (map labelWord ls) 0 (omega (arith, length-map ls labelWord, length-labels m (from + 1) (wordAt m from - 1)))
+      List·getD-eq-default (map labelWord ls) 0 (omega (arith, length-map ls labelWord, length-labels-in m (from + 1) (wordAt m from - 1)))
 
   run-labels : labelsBetween m (from + 1) (from + wordAt m from) ≡ labelsOk m 0 (from + 1) (wordAt m from - 1)
   run-labels = ap (labelsOk m 0 (from + 1)) e
@@ -109,7 +109,7 @@ module _ (m : List ℕ) (from limit : ℕ) (ok : partOk m from limit ≡ true) w
       let p = head-pos in
       let q : wordAt m from ≤ limit + 1 = leb-true _ _ (and-left _ _ (and-right _ _ ok)) in
       let v = labels-valid m n 0 (from + 1) (sym (run-labels m from) ∙ and-left _ _ (and-right _ _ (and-right _ _ ok))) in
-      ap₂ _&&_ (le-leb (length (labelsIn m (from + 1) n)) limit (omega (arith, length-labels m (from + 1) n)))
+      ap₂ _&&_ (le-leb (length (labelsIn m (from + 1) n)) limit (omega (arith, length-labels-in m (from + 1) n)))
       (ap₂ _&&_ (v .0) (after-rising (labelsIn m (from + 1) n) (v .1)))
 
   past-zero : (k : ℕ) → from + wordAt m from ≤ k → k < from + 1 + limit → wordAt m k ≡ 0

@@ -1,6 +1,6 @@
 -- A memory is well formed exactly if it is whole, says an acceptable registry, and is that registry's image.
 use mathlib.Core.Path.{_≡_, refl, sym, ap, ap₂, subst, _∙_}
-use mathlib.Core.Bool.{true, _&&_}
+use mathlib.Core.Bool.{false≢true, true, _&&_}
 use mathlib.Core.Logic.{_↔_}
 use mathlib.Core.List.{List, [], _∷_}
 use Prim.Native.Nat.{ℕ}
@@ -8,17 +8,17 @@ use lib.Dec.{eqb}
 use lib.ListN.{length}
 use borrow.Author.Tests.{eqb-true, eq-eqb}
 use Rattle.model.specs.Registry.{Registry}
+use Rattle.model.proofs.Lists.{both}
 use Rattle.store.specs.Layout.{memoryWords, Whole}
 use Rattle.store.specs.Contents.{Holds}
 use Rattle.formed.specs.Registry.{registryIn, contentsOf, image, acceptable, Acceptable, sameWords, wellFormed}
-use Rattle.formed.proofs.Tests.{clash, both}
 use Rattle.formed.proofs.Back.{image-size, image-contents, registry-image}
 use Rattle.formed.proofs.Acceptable.{acceptable-test, test-acceptable}
 
 words-same : (a b : List ℕ) → sameWords a b ≡ true → a ≡ b
 words-same [] [] e = refl
-words-same [] (y ∷ b) e = clash e
-words-same (x ∷ a) [] e = clash e
+words-same [] (y ∷ b) e = absurd (false≢true e)
+words-same (x ∷ a) [] e = absurd (false≢true e)
 words-same (x ∷ a) (y ∷ b) e =
     let h = both (eqb x y) (sameWords a b) e in
     ap₂ (λ (n : ℕ) (l : List ℕ). n ∷ l) (eqb-true x y (h .0)) (words-same a b (h .1))

@@ -10,7 +10,7 @@ use Rattle.block.specs.Reading.{word, padded, packed}
 use Rattle.block.specs.Written.{inRange, allInRange, validLabels}
 use Rattle.formed.specs.Words.{labelWord, labelIn}
 use Rattle.formed.specs.Labels.{unpacked}
-use Rattle.formed.proofs.Tests.{both}
+use Rattle.model.proofs.Lists.{both}
 use Rattle.formed.proofs.Parts.{label-back, labels-few, labels-in-range}
 
 pub padded-at : (n : ℕ) (ws : List ℕ) (j : ℕ) → j < n → getD (padded n ws) j 0 ≡ getD ws j 0

@@ -13,9 +13,9 @@ use Rattle.block.specs.Entry.{Label}
 use Rattle.block.specs.Reader.{within}
 use Rattle.block.proofs.Checks.{within-bounds}
 use Rattle.block.specs.Written.{inRange, allInRange, rising, validLabels}
+use Rattle.model.proofs.Lists.{both}
 use Rattle.store.specs.Layout.{wordAt}
 use Rattle.formed.specs.Words.{labelWord, partWord, labelIn, labelsIn, partIn}
-use Rattle.formed.proofs.Tests.{both}
 
 -- ---- labels
 
@@ -75,9 +75,9 @@ labels-some m (suc n) s ok k a b =
     go (yes e) first rest = rw e first
     go (no o) first rest = rest (omega arith) (omega arith)
 
-pub length-labels : (m : List ℕ) (s n : ℕ) → length (labelsIn m s n) ≡ n
-length-labels m s zero = refl
-length-labels m s (suc n) = ap suc (length-labels m (s + 1) n)
+pub length-labels-in : (m : List ℕ) (s n : ℕ) → length (labelsIn m s n) ≡ n
+length-labels-in m s zero = refl
+length-labels-in m s (suc n) = ap suc (length-labels-in m (s + 1) n)
 
 -- ---- parts
 

@@ -16,7 +16,7 @@ use Rattle.store.specs.Layout.{containerWords, policyWords, selectOffset, allow
 use Rattle.store.proofs.Cases.{by-ltb}
 use Rattle.formed.specs.Words.{partWord, containerWord, policyWord, partIn, containerIn, policyAt, policyIn}
 use Rattle.formed.specs.Registry.{validContainer, validPolicy}
-use Rattle.formed.proofs.Tests.{both}
+use Rattle.model.proofs.Lists.{both}
 use Rattle.formed.proofs.Parts.{part-back, part-small}
 
 pub valid-container : (s : Settings) (ls : Container) → validEntry s (container ls) ≡ true → validLabels 8 ls ≡ true

@@ -12,7 +12,7 @@ use mir.Syntax.{w64}
 use borrow.Author.Tests.{eq-eqb, ne-eqb}
 use Rattle.bitrow.specs.Bit.{bit, bitAt}
 use Rattle.bitrow.specs.Set.{nothing, insert, meet, under, Bounded}
-use Rattle.bitrow.proofs.Sets.{at, meet-at, meet-take, meet-skip, meet-nothing, under-zero, under-in, under-out, bounded-under, bounded-raise, bounded-meet-right}
+use Rattle.bitrow.proofs.Sets.{point, meet-at, meet-take, meet-skip, meet-nothing, under-zero, under-in, under-out, bounded-under, bounded-raise, bounded-meet-right}
 use Rattle.bitrow.proofs.Words.{bit-zero, bit-not}
 use Rattle.bitrow.proofs.Rows.{words-are}
 use Rattle.model.specs.Table.{stands}
@@ -123,7 +123,7 @@ module _ (m : List ℕ) where
   standing-word : (from step w : ℕ) → Fits w64 w → bit w ≡ meet (firsts m from step 0) (under 64)
       → (i : ℕ) → i < 64 → bit (18446744073709551615 - w) i ≡ taken (wordAt m (from + step * i))
   unfolding firsts
-  standing-word from step w h e i l = bit-not 64 w i (h .fits) l ∙ ap not (at e i ∙ meet-in (firsts m from step 0) 64 i l)
+  standing-word from step w h e i l = bit-not 64 w i (h .fits) l ∙ ap not (point e i ∙ meet-in (firsts m from step 0) 64 i l)
 
   containers-stand : meet (passing m containersStart containerWords taken) (under containerSlots) ≡ stands (modelIn m .containers)
   unfolding meet under passing

@@ -4,15 +4,16 @@ use mathlib.Core.Bool.{Bool, true, false, _&&_, cond}
 use mathlib.Core.List.{List}
 use Prim.Native.Nat.{ℕ, _+_, _-_, _/_, _%_, _^_, _<_, _≤_}
 use native.Mathlib.Omega.{arith}
-use lib.Dec.{eqb, ltb}
-use borrow.Author.Tests.{lt-ltb, le-ltb, eq-eqb, ne-eqb}
+use lib.Dec.{ltb}
+use borrow.Author.Tests.{lt-ltb, le-ltb}
 use Rattle.bitrow.specs.Bit.{bitAt}
-use Rattle.bitrow.proofs.Sets.{at as point}
+use Rattle.bitrow.proofs.Sets.{point}
 use Rattle.model.specs.Table.{at}
 use Rattle.model.specs.Model.{containerSlots, policySlots, Model, Bits}
-use Rattle.store.specs.Layout.{containersStart, containerWords, policiesStart, policyWords, containerStart, policyStart, selectedRow, allowedRow, wordAt, rowAt, rowBit}
-use Rattle.store.proofs.Cases.{by-ltb, by-eqb}
+use Rattle.store.specs.Layout.{containersStart, containerWords, policiesStart, policyWords, containerStart, policyStart, rowCount, matrixBand, selectedBand, allowedBand, bandIndex, inBand, selectedRow, allowedRow, wordAt, rowAt, rowBit}
+use Rattle.store.proofs.Cases.{by-ltb}
 use Rattle.store.proofs.Carried.{row-bits}
+use Rattle.store.proofs.Columns.{band-index, band-in, band-out, by-band}
 use Rattle.formed.specs.Words.{settingsWord, containerWord, policyWord}
 use Rattle.formed.specs.Registry.{bitWithin, bitsIn, entryWord, storedBit}
 
@@ -56,31 +57,46 @@ slot-policy m q j hj =
     let b : (policyStart q + j - policiesStart) % policyWords ≡ j = omega arith in
     word-policy m (policyStart q + j) (omega arith) ∙ ap₂ (λ (x y : ℕ). policyWord (at (m .policies) x) y) a b
 
--- ---- a row
+-- ---- a row, by the table that has it
 
-module _ (s : Bits) (x : ℕ) where
-  abbrev set : ℕ
-  set = (x - containerSlots) / 2
-
-  stored-by : (t u : Bool) → ltb x containerSlots ≡ t → eqb (x % 2) 0 ≡ u → storedBit s x ≡ (λ y. cond t (s .matrix x y) (cond u (s .selected set y) (s .allowed set y)))
+module _ (s : Bits) where
+  stored-by : (x i j k : ℕ) (t u : Bool) → inBand matrixBand x ≡ t → inBand selectedBand x ≡ u → bandIndex matrixBand x ≡ i → bandIndex selectedBand x ≡ j
+      → bandIndex allowedBand x ≡ k → storedBit s x ≡ (λ y. cond t (s .matrix i y) (cond u (s .selected j y) (s .allowed k y)))
   unfolding storedBit
-  stored-by t u e f = fun-ext (λ y. ap₂ (λ (v w : Bool). cond v (s .matrix x y) (cond w (s .selected set y) (s .allowed set y))) e f)
+  stored-by x i j k t u e f p q r = fun-ext (λ y. rw (e, f, p, q, r))
 
-  pub stored-matrix : x < containerSlots → storedBit s x ≡ s .matrix x
-  stored-matrix h = stored-by true (eqb (x % 2) 0) (lt-ltb x containerSlots h) refl
+  pub stored-matrix : (a : ℕ) → a < containerSlots → storedBit s a ≡ s .matrix a
+  stored-matrix a h = stored-by a a _ _ true _ (band-in matrixBand a a (omega arith) h (omega arith)) refl (band-index matrixBand a a (omega arith) (omega arith)) refl refl
 
-  pub stored-even : containerSlots ≤ x → x % 2 ≡ 0 → storedBit s x ≡ s .selected set
-  stored-even h e = stored-by false true (le-ltb x containerSlots h) (eq-eqb (x % 2) 0 e)
+  pub stored-selected : (q : ℕ) → q < policySlots → storedBit s (selectedRow q) ≡ s .selected q
+  stored-selected q h =
+      stored-by (selectedRow q) _ q _ false true (band-out matrixBand (selectedRow q) (λ i l e. omega arith)) (band-in selectedBand (selectedRow q) q (omega arith) h refl)
+      refl (band-index selectedBand (selectedRow q) q (omega arith) refl) refl
 
-  pub stored-odd : containerSlots ≤ x → (x % 2 ≡ 0 → ⊥) → storedBit s x ≡ s .allowed set
-  stored-odd h e = stored-by false false (le-ltb x containerSlots h) (ne-eqb (x % 2) 0 e)
+  pub stored-allowed : (q : ℕ) → q < policySlots → storedBit s (allowedRow q) ≡ s .allowed q
+  stored-allowed q h =
+      stored-by (allowedRow q) _ _ q false false (band-out matrixBand (allowedRow q) (λ i l e. omega arith)) (band-out selectedBand (allowedRow q) (λ i l e. omega arith))
+      refl refl (band-index allowedBand (allowedRow q) q (omega arith) refl)
 
-module _ (s : Bits) (q : ℕ) where
-  pub stored-selected : storedBit s (selectedRow q) ≡ s .selected q
-  stored-selected = let e : (selectedRow q - containerSlots) / 2 ≡ q = omega arith in stored-even s (selectedRow q) (omega arith) (omega arith) ∙ ap (s .selected) e
+-- what holds of a bit of each table holds of a stored bit
+pub by-table : (P : ℕ → Bool → Type 0) (s : Bits) (y : ℕ) → ((a : ℕ) → a < containerSlots → P a (s .matrix a y))
+    → ((q : ℕ) → q < policySlots → P (selectedRow q) (s .selected q y)) → ((q : ℕ) → q < policySlots → P (allowedRow q) (s .allowed q y))
+    → (x : ℕ) → x < rowCount → P x (storedBit s x y)
+by-table P s y f g h =
+    by-band (λ x. P x (storedBit s x y))
+    (λ a l. subst (P a) (sym (point (stored-matrix s a l) y)) (f a l))
+    (λ q l. subst (P (selectedRow q)) (sym (point (stored-selected s q l) y)) (g q l))
+    (λ q l. subst (P (allowedRow q)) (sym (point (stored-allowed s q l) y)) (h q l))
 
-  pub stored-allowed : storedBit s (allowedRow q) ≡ s .allowed q
-  stored-allowed = let e : (allowedRow q - containerSlots) / 2 ≡ q = omega arith in stored-odd s (allowedRow q) (omega arith) (λ z. omega arith) ∙ ap (s .allowed) e
+-- bits that agree where the row is theirs are stored alike
+pub stored-cong : (s t : Bits) (x y : ℕ) → x < rowCount → ((a : ℕ) → a < containerSlots → x ≡ a → s .matrix a y ≡ t .matrix a y)
+    → ((q : ℕ) → q < policySlots → x ≡ selectedRow q → s .selected q y ≡ t .selected q y)
+    → ((q : ℕ) → q < policySlots → x ≡ allowedRow q → s .allowed q y ≡ t .allowed q y) → storedBit s x y ≡ storedBit t x y
+stored-cong s t x y l f g h =
+    by-table (λ z b. x ≡ z → storedBit s z y ≡ b) t y
+    (λ a k e. point (stored-matrix s a k) y ∙ f a k e)
+    (λ q k e. point (stored-selected s q k) y ∙ g q k e)
+    (λ q k e. point (stored-allowed s q k) y ∙ h q k e) x l refl
 
 -- ---- a row, read
 
@@ -100,19 +116,3 @@ module _ (m : List ℕ) where
   pub allowed-row : (q : ℕ) → q < policySlots → bitAt (rowAt m (allowedRow q)) ≡ bitsIn m .allowed q
   unfolding bitsIn
   allowed-row q h = row-within policySlots q (allowedRow q) h
-
--- ---- a bit
-
--- what holds of a bit of each table holds of a stored bit
-pub by-table : (P : Bool → Type 0) (s : Bits) (x y : ℕ) → (x < containerSlots → P (s .matrix x y)) → (containerSlots ≤ x → x % 2 ≡ 0 → P (s .selected ((x - containerSlots) / 2) y))
-    → (containerSlots ≤ x → (x % 2 ≡ 0 → ⊥) → P (s .allowed ((x - containerSlots) / 2) y)) → P (storedBit s x y)
-unfolding storedBit
-by-table P s x y f g h =
-    let q = (x - containerSlots) / 2 in
-    by-ltb (λ u. P (cond u (s .matrix x y) (cond (eqb (x % 2) 0) (s .selected q y) (s .allowed q y)))) x containerSlots f (λ l. by-eqb (λ u. P (cond u (s .selected q y) (s .allowed q y))) (x % 2) 0 (g l) (h l))
-
-pub stored-cong : (s t : Bits) (x y : ℕ) → (x < containerSlots → s .matrix x y ≡ t .matrix x y)
-    → (containerSlots ≤ x → x % 2 ≡ 0 → s .selected ((x - containerSlots) / 2) y ≡ t .selected ((x - containerSlots) / 2) y)
-    → (containerSlots ≤ x → (x % 2 ≡ 0 → ⊥) → s .allowed ((x - containerSlots) / 2) y ≡ t .allowed ((x - containerSlots) / 2) y) → storedBit s x y ≡ storedBit t x y
-stored-cong s t x y f g h =
-    by-table (λ v. storedBit s x y ≡ v) t x y (λ l. point (stored-matrix s x l) y ∙ f l) (λ l e. point (stored-even s x l e) y ∙ g l e) (λ l e. point (stored-odd s x l e) y ∙ h l e)

@@ -1,24 +1,18 @@
 -- Laws of tests over lists.
 use mathlib.Core.Path.{_≡_, refl, ap₂}
-use mathlib.Core.Bool.{Bool, true, false, not, _&&_, _||_, and-eq-true-iff}
+use mathlib.Core.Bool.{false≢true, Bool, true, false, not, _&&_, _||_}
 use mathlib.Core.List.{List, [], _∷_}
 use Prim.Native.Nat.{ℕ, zero, suc, _<_}
 use native.Mathlib.Nat.{not-suc-le-zero, le-of-suc-le-suc}
 use native.Mathlib.Omega.{arith}
 use lib.ListN.{length, getD}
 use Rattle.model.specs.Table.{all}
-
-pub clash : {A : Type 0} → false ≡ true → A
-clash e = let z : _≡_ {A = ℕ} 0 1 = cc in absurd (omega arith)
-
--- both parts of a conjunction
-pub both : (a b : Bool) → (a && b) ≡ true → (a ≡ true) × (b ≡ true)
-both a b = and-eq-true-iff a b .0
+use Rattle.model.proofs.Lists.{both}
 
 -- what a set bit asks
 pub implies : (a b : Bool) → (not a || b) ≡ true → a ≡ true → b ≡ true
 implies true b e h = e
-implies false b e h = clash h
+implies false b e h = absurd (false≢true h)
 
 pub implied : (a b : Bool) → (a ≡ true → b ≡ true) → (not a || b) ≡ true
 implied true b h = h refl

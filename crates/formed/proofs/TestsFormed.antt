@@ -33,11 +33,7 @@ use Rattle.formed.proofs.EntryTests.{container-holds, container-passes,
 
 row-stored : (m : List ℕ) (x y : ℕ) → x < rowCount → y < containerSlots → rowBit m x y ≡ storedBit (bitsIn m) x y
 row-stored m x y hx hy =
-    let q = (x - containerSlots) / 2 in
-    by-table (λ t. rowBit m x y ≡ t) (bitsIn m) x y
-    (λ l. sym (matrix-in m x y l hy))
-    (λ l e. let i : x ≡ selectedRow q = omega arith in ap (λ r. rowBit m r y) i ∙ sym (selected-in m q y (omega arith) hy))
-    (λ l e. let i : x ≡ allowedRow q = omega arith in ap (λ r. rowBit m r y) i ∙ sym (allowed-in m q y (omega arith) hy))
+    by-table (λ z b. rowBit m z y ≡ b) (bitsIn m) y (λ a l. sym (matrix-in m a y l hy)) (λ q l. sym (selected-in m q y l hy)) (λ q l. sym (allowed-in m q y l hy)) x hx
 
 -- ---- rows: one law for the matrix and both sets
 

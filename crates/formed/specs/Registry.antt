@@ -11,7 +11,7 @@ use Rattle.block.specs.Written.{validSettings, validEntry}
 use Rattle.model.specs.Table.{all, at, stands, below}
 use Rattle.model.specs.Model.{containerSlots, policySlots, Model, Bits}
 use Rattle.model.specs.Registry.{Registry}
-use Rattle.store.specs.Layout.{memoryWords, containersStart, containerWords, policiesStart, policyWords, selectedRow, allowedRow, rowBit}
+use Rattle.store.specs.Layout.{memoryWords, containersStart, containerWords, policiesStart, policyWords, matrixBand, selectedBand, allowedBand, bandIndex, inBand, selectedRow, allowedRow, rowBit}
 use Rattle.store.specs.Contents.{Contents, tab, imageOf}
 use Rattle.formed.specs.Words.{settingsWord, containerWord, policyWord, settingsIn, containerIn, policyIn}
 
@@ -49,11 +49,12 @@ entryWord m k =
     (cond (ltb k policiesStart) (containerWord (at (m .containers) (c / containerWords)) (c % containerWords))
     (policyWord (at (m .policies) (q / policyWords)) (q % policyWords)))
 
--- bit y of row x
+-- bit y of row x: a bit of the table that has the row
 unfoldable pub storedBit : Bits → ℕ → ℕ → Bool
 storedBit s x y =
-    let q = (x - containerSlots) / 2 in
-    cond (ltb x containerSlots) (s .matrix x y) (cond (eqb (x % 2) 0) (s .selected q y) (s .allowed q y))
+    cond (inBand matrixBand x) (s .matrix (bandIndex matrixBand x) y)
+    (cond (inBand selectedBand x) (s .selected (bandIndex selectedBand x) y)
+    (s .allowed (bandIndex allowedBand x) y))
 
 unfoldable pub contentsOf : Registry → Contents
 contentsOf r = record { words = entryWord (r .model); bits = storedBit (r .bits) }

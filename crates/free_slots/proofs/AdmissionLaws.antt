@@ -30,9 +30,9 @@ module _ (m : List ℕ) where
       none-of none e = refl
       none-of (some c) e = cc
 
-  pub policies-full : (p : Policy) → freePolicy (lowestFree (modelIn m .policies)) ≡ policies.Full → policyAdmitted m p ≡ (m, refusal 12)
+  pub policy-full : (p : Policy) → freePolicy (lowestFree (modelIn m .policies)) ≡ policies.Full → policyAdmitted m p ≡ (m, refusal 12)
   unfolding policyAdmitted
-  policies-full p e = ap (policyAdmittedTo m p) (none-of (lowestFree (modelIn m .policies)) e)
+  policy-full p e = ap (policyAdmittedTo m p) (none-of (lowestFree (modelIn m .policies)) e)
     where
       none-of : (o : Option ℕ) → freePolicy o ≡ policies.Full → o ≡ none
       none-of none e = refl

@@ -3,11 +3,9 @@ ghost use Prim.Native.Nat.{_+_, _≤_, _<_};
 ghost use lib.ListN.{length};
 ghost use Rattle.steps.specs.MemoryStep.{memoryStep};
 ghost use Rattle.model.specs.Calls.{openWith, change, admit};
-ghost use Rattle.sheets.specs.Told.{Tells};
-ghost use Rattle.sheets.specs.Blocks.{Takes, opens, admits, taken, endOf};
-use block::numbers;
-use registry::Admitted;
-use registry::Outcome;
+ghost use Rattle.sheets.specs.Blocks.{Takes, opens, admits, taken};
+use answers::Admitted;
+use answers::Outcome;
 use sheets::State;
 use sheets::Told;
 
@@ -16,7 +14,7 @@ fn open_by(memory: &mut [u64], block: &[u8], out: &mut [u8]) -> Told
     requires { ⌜ 128 ≤ length (now out) ⌝ }
     ensures { λ r. ⌜ Takes (opens (memoryStep (now (memory .entry)) (openWith (now (block .entry))))) (now (memory .exit)) (now (out .entry)) (now (out .exit)) r ⌝ }
 {
-    let answer = registry::open(memory, block);
+    let answer = opening::open(memory, block);
     match answer {
         Outcome::Refused(why) => {
             let put = text::put_refusal(out, 1, why as u64);
@@ -37,7 +35,7 @@ fn admit_as(memory: &mut [u64], block: &[u8], out: &mut [u8], n: u64) -> Told
     requires { ⌜ (n < 18446744073709551615) × (128 ≤ length (now out)) ⌝ }
     ensures { λ r. ⌜ Takes (admits n (memoryStep (now (memory .entry)) (change (admit (now (block .entry)))))) (now (memory .exit)) (now (out .entry)) (now (out .exit)) r ⌝ }
 {
-    let answer = registry::admit(memory, block);
+    let answer = admission::admit(memory, block);
     match answer {
         Admitted::Refused(why) => {
             let put = text::put_refusal(out, n + 1, why as u64);
@@ -66,22 +64,4 @@ pub fn take_block(memory: &mut [u64], block: &[u8], out: &mut [u8], n: u64) -> T
         return open_by(memory, block, out);
     }
     admit_as(memory, block, out, n)
-}
-
-// The end of the input at the end of a block, after n blocks.
-pub fn end_after(out: &mut [u8], n: u64) -> Told
-    requires { ⌜ 128 ≤ length (now out) ⌝ }
-    ensures { λ r. ⌜ Tells (endOf n) (now (out .entry)) (now (out .exit)) r ⌝ }
-{
-    if 0 < n {
-        return Told {
-            state: State::Counting,
-            put: 0,
-        };
-    }
-    let put = text::put_refusal(out, 1, numbers::BLOCK_LENGTH as u64);
-    Told {
-        state: State::Finished,
-        put,
-    }
 }

@@ -12,10 +12,10 @@ use borrow.Author.Tests.{eq-eqb, ne-eqb}
 use Rattle.bitrow.specs.Bit.{bit, bitAt}
 use Rattle.bitrow.specs.Set.{meet, under, insert, Bounded}
 use Rattle.bitrow.proofs.Rows.{insert-row}
-use Rattle.bitrow.proofs.Sets.{at, meet-at, meet-assoc, meet-take, meet-skip, meet-under, meet-nothing, under-zero, bounded-meet-left, insert-member, insert-there}
+use Rattle.bitrow.proofs.Sets.{point, meet-at, meet-assoc, meet-take, meet-skip, meet-under, meet-nothing, under-zero, bounded-meet-left, insert-member, insert-there}
 use Rattle.model.specs.Rules.{carries, matches}
+use Rattle.model.proofs.Lists.{both}
 use Rattle.store.specs.Layout.{containerStart, wordAt}
-use Rattle.formed.proofs.Tests.{both}
 use Rattle.formed.specs.Words.{labelIn, partIn}
 use Rattle.entries.specs.Entries.{matchingFrom, matching, trialSet}
 use Rattle.entries.proofs.PartLabels.{labelsFrom, carries-part, carries-hit, carries-skip, carries-done, matches-part, matches-fail, matches-skip, matches-done}
@@ -109,8 +109,8 @@ module _ (m labels : List ℕ) (c part : ℕ) where
 -- ---- the rows of all labels, container by container
 
 module _ (m labels : List ℕ) where
-  pub rows-none : {rows : List (List ℕ)} → Empty places rows → LabelRows m labels 0 rows
-  rows-none e = record { shape = e .shape; row = λ v p. e .row (tablePlace labels v) ∙ sym (ap (meet (carriers m v)) under-zero ∙ meet-nothing (carriers m v)) }
+  pub label-rows-none : {rows : List (List ℕ)} → Empty places rows → LabelRows m labels 0 rows
+  label-rows-none e = record { shape = e .shape; row = λ v p. e .row (tablePlace labels v) ∙ sym (ap (meet (carriers m v)) under-zero ∙ meet-nothing (carriers m v)) }
 
   pub rows-next : {rows next : List (List ℕ)} {c : ℕ} → LabelRows m labels c rows
       → Marked labels c (λ v. carries (partIn m (containerStart c)) (labelIn v)) rows next → LabelRows m labels (c + 1) next
@@ -187,7 +187,7 @@ module _ (m : List ℕ) (part : ℕ) where
         rest = λ j k. of-both j k .1;
         narrowed = ap (λ t. meet t (matching m part)) same ∙ meet-assoc left carrying (matching m part) ∙ ap (meet left) (fun-ext kept) ∙ g .narrowed;
         whole = λ k j.
-            ap (λ t. t && after j) (at same j ∙ meet-at left carrying j) ∙ and-assoc (left j) (carrying j) (after j)
+            ap (λ t. t && after j) (point same j ∙ meet-at left carrying j) ∙ and-assoc (left j) (carrying j) (after j)
             ∙ ap (λ t. left j && t) (sym (next-label j)) ∙ g .whole k j;
       }
         where

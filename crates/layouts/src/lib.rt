@@ -21,7 +21,7 @@ pub fn frame_test(block: &[u8]) -> Tested
             position: 0,
         });
     }
-    if faults::number_at(block, 510) != faults::checksum(block) {
+    if block_bytes::number_at(block, 510) != block_bytes::checksum(block) {
         return Tested::Refused(Refusal {
             number: numbers::CHECKSUM,
             position: 510,
@@ -115,7 +115,7 @@ pub fn container_test(block: &[u8]) -> Tested
     ensures { λ r. ⌜ r ≡ firstRefusal (layoutChecks (now (block .entry)) (containerLayout (now (block .entry)))) ⌝ }
 {
     let limits = faults::unless(block[1] <= 8, 1);
-    let count = faults::size(block[1]);
+    let count = block_bytes::size(block[1]);
     let end = 4 + 4 * count;
     let first = Run { start: 4, count };
     let second = Run {
@@ -141,7 +141,7 @@ fn policy_limits(block: &[u8]) -> Fault
     requires { ⌜ length (now block) ≡ 512 ⌝ }
     ensures { λ r. ⌜ r ≡ policyLayout (now (block .entry)) .limits ⌝ }
 {
-    let direction = faults::unless(faults::within(1, 2, faults::wide(block[1])), 1);
+    let direction = faults::unless(faults::within(1, 2, block_bytes::wide(block[1])), 1);
     let select = faults::unless(block[2] <= 4, 2);
     let allow = faults::unless(block[3] <= 4, 3);
     faults::or_else(direction, faults::or_else(select, allow))
@@ -152,8 +152,8 @@ pub fn policy_test(block: &[u8]) -> Tested
     ensures { λ r. ⌜ r ≡ firstRefusal (layoutChecks (now (block .entry)) (policyLayout (now (block .entry)))) ⌝ }
 {
     let limits = policy_limits(block);
-    let select = faults::size(block[2]);
-    let allow = faults::size(block[3]);
+    let select = block_bytes::size(block[2]);
+    let allow = block_bytes::size(block[3]);
     let first = Run {
         start: 4,
         count: select,

@@ -7,10 +7,10 @@ use native.Mathlib.Decide.{decLt}
 use native.Mathlib.Omega.{arith}
 use Rattle.bitrow.specs.Bit.{bitAt}
 use Rattle.bitrow.specs.Set.{meet, join, less}
-use Rattle.bitrow.proofs.Sets.{at as point}
+use Rattle.bitrow.proofs.Sets.{point}
 use Rattle.model.specs.Model.{containerSlots, Model, matrixBit}
 use Rattle.model.specs.Registry.{Registry, setWhere}
-use Rattle.store.specs.Layout.{rowAt, matrixBand, bandRow}
+use Rattle.store.specs.Layout.{rowCount, rowAt, matrixBand, bandRow}
 use Rattle.store.specs.Contents.{Contents, Holds}
 use Rattle.store.specs.Memory.{rowSet, withRow, withRows}
 use Rattle.store.proofs.Cases.{by-eqb}
@@ -22,10 +22,6 @@ use Rattle.formed.proofs.StoredLaws.{Fit, stored-matrix, stored-cong}
 use Rattle.matrix_resets.specs.Resets.{resetWhere, product, masked, RowReset}
 
 -- ---- a row of the matrix
-
--- a row read, its number written in another way
-pub row-read-as : (m : List ℕ) (x y : ℕ) {row : List ℕ} → row ≡ rowAt m x → x ≡ y → row ≡ rowAt m y
-row-read-as m x y e q = e ∙ ap (rowAt m) q
 
 masked-bit : (old rule mask : Bool) → ((old && not mask) || (rule && mask)) ≡ cond mask rule old
 masked-bit true true true = refl
@@ -108,14 +104,14 @@ module _ (r : Registry) (s t : ℕ → Bool) where
   unfolding contentsOf resetWhere
   reset-same-rows = record {
     words = λ k l. ap (λ (u : ℕ → ℕ). u k) (rows-words (contentsOf r) matrixBand reset);
-    bits = λ x y hx hy. go x y (decLt x containerSlots);
+    bits = λ x y hx hy. go x y hx (decLt x containerSlots);
   }
     where
-      go : (x y : ℕ) → Dec (x < containerSlots) → (withRows (contentsOf r) matrixBand reset) .bits x y ≡ contentsOf (resetWhere r (product s t)) .bits x y
-      go x y (yes l) = point (rows-in (contentsOf r) matrixBand reset x x (omega arith) l (omega arith)) y ∙ reset-matrix x y l
-      go x y (no l) =
+      go : (x y : ℕ) → x < rowCount → Dec (x < containerSlots) → (withRows (contentsOf r) matrixBand reset) .bits x y ≡ contentsOf (resetWhere r (product s t)) .bits x y
+      go x y hx (yes l) = point (rows-in (contentsOf r) matrixBand reset x x (omega arith) l (omega arith)) y ∙ reset-matrix x y l
+      go x y hx (no l) =
           point (rows-out (contentsOf r) matrixBand reset x (λ i h e. l (omega arith))) y
-          ∙ stored-cong (r .bits) (resetWhere r (product s t) .bits) x y (λ h. absurd (l h)) (λ h e. refl) (λ h e. refl)
+          ∙ stored-cong (r .bits) (resetWhere r (product s t) .bits) x y hx (λ a h e. absurd (l (omega arith))) (λ q h _. refl) (λ q h _. refl)
 
   pub resets-all : {m : List ℕ} {n : ℕ} → Resets r s t m n → containerSlots ≤ n → m ≡ image (resetWhere r (product s t))
   resets-all {m} g h = image-written (resetWhere r (product s t)) m (holds-as (filling-all (g .filled) h) _ reset-same-rows) (g .fit)

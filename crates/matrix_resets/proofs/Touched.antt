@@ -6,7 +6,7 @@ use mathlib.Core.Option.{Option, none, some}
 use Prim.Native.Nat.{ℕ, _<_}
 use native.Mathlib.Omega.{arith}
 use Rattle.bitrow.specs.Set.{hasSome}
-use Rattle.bitrow.proofs.Sets.{at as point}
+use Rattle.bitrow.proofs.Sets.{point}
 use Rattle.bitrow.proofs.Tests.{hasSome-absent}
 use Rattle.block.specs.Entry.{Container, Direction, ingress, egress, Policy}
 use Rattle.block.specs.Written.{directionNumber}
@@ -31,7 +31,7 @@ module _ (r : Registry) where
   unfolding contentsOf resetWhere setWhere
   named-none f e = record {
     words = λ k l. refl;
-    bits = λ x y a b. stored-cong _ _ x y (λ l. sym (ap (λ (u : Bool). cond u (matrixBit (r .model) x y) (r .bits .matrix x y)) (e x y l b))) (λ l z. refl) (λ l z. refl);
+    bits = λ x y a b. stored-cong _ _ x y a (λ i l _. sym (ap (λ (u : Bool). cond u (matrixBit (r .model) i y) (r .bits .matrix i y)) (e i y l b))) (λ q l _. refl) (λ q l _. refl);
   }
 
 -- ---- the pairs that a policy touches

@@ -17,9 +17,9 @@ fn reset_row(memory: &mut [u64], a: usize, columns: [u64; 4], ruled: [u64; 4])
     requires { ⌜ Whole (now memory) × (a < 256) ⌝ }
     ensures { λ u. ⌜ RowReset (now (memory .entry)) (now (memory .exit)) a (bitAt columns) (bitAt ruled) ⌝ }
 {
-    let old = store::row_at(memory, a);
+    let old = access::row_at(memory, a);
     let row = bitrow::either(bitrow::except(old, columns), bitrow::both(ruled, columns));
-    store::set_row(memory, a, row);
+    access::set_row(memory, a, row);
 }
 
 // What these rows are read from by the rules. Policy q's sets are taken as they are stored; the lines are empty before.
@@ -37,8 +37,8 @@ fn gather_rows(
 {
     let mut selected = [[0u64; 4]; 128];
     let mut allowed = [[0u64; 4]; 128];
-    let selects = store::row_at(memory, store::CONTAINER_SLOTS + 2 * q);
-    let allows = store::row_at(memory, store::CONTAINER_SLOTS + 2 * q + 1);
+    let selects = stored::stored_selected(memory, q);
+    let allows = stored::stored_allowed(memory, q);
     selected[q] = selects;
     allowed[q] = allows;
     matrix_rows::gather(

@@ -12,11 +12,11 @@ use borrow.Author.Tests.{le-leb, lt-leb, leb-true}
 use Rattle.bitrow.specs.Bit.{bit, bitAt, Row}
 use Rattle.bitrow.specs.Set.{nothing, meet, join, less, remove}
 use Rattle.bitrow.proofs.Words.{bit-zero, bit-below}
-use Rattle.bitrow.proofs.Sets.{at, meet-at, join-at, join-assoc, join-self, remove-there, remove-other}
+use Rattle.bitrow.proofs.Sets.{point, meet-at, join-at, join-assoc, join-self, remove-there, remove-other}
 use Rattle.store.proofs.Cases.{by-eqb}
-use Rattle.formed.proofs.Tests.{both}
 use Rattle.block.specs.Entry.{ingress, egress}
 use Rattle.model.specs.Model.{containerSlots, policySlots, Model, matrixBit}
+use Rattle.model.proofs.Lists.{both}
 use Rattle.sets.specs.Sets.{bits, Empty}
 use Rattle.matrix_rows.specs.declared.Gathered.{Gathered}
 use Rattle.rules.specs.Lets.{having, union, Picks, setsLet, setsLetBy}
@@ -87,11 +87,11 @@ module _ (first word : ℕ) (u : ℕ → Bool) (before : List (List ℕ)) where
         other : (a : ℕ) → (a ≡ first + k → ⊥) → raised first (bit next) a ≡ raised first (bit rest) a
         other a = by-raised (λ a. (a ≡ first + k → ⊥) → raised first (bit next) a ≡ raised first (bit rest) a) first a
             (λ p n. raised-out first _ a p ∙ sym (raised-out first _ a p))
-            (λ j n. raised-in first _ j ∙ at d j ∙ remove-other k (bit rest) j (λ q. n (ap (λ i. first + i) q)) ∙ sym (raised-in first _ j))
+            (λ j n. raised-in first _ j ∙ point d j ∙ remove-other k (bit rest) j (λ q. n (ap (λ i. first + i) q)) ∙ sym (raised-in first _ j))
 
         go : (a : ℕ) → Dec (a ≡ first + k) → joinIf (raised first (bit next) a) (bits (set after (first + k) row) a) u ≡ joinIf (raised first (bit rest) a) (bits after a) u
         go a (yes q) = subst (λ a. joinIf (raised first (bit next) a) (bits (set after (first + k) row) a) u ≡ joinIf (raised first (bit rest) a) (bits after a) u) (sym q)
-            (join-no _ u (raised-in first _ k ∙ at d k ∙ remove-there k (bit rest)) ∙ ap bitAt (getD-set-same after (first + k) row [] h) ∙ e
+            (join-no _ u (raised-in first _ k ∙ point d k ∙ remove-there k (bit rest)) ∙ ap bitAt (getD-set-same after (first + k) row [] h) ∙ e
             ∙ sym (join-yes _ u (raised-in first _ k ∙ t)))
         go a (no n) = ap₂ (λ t s. joinIf t s u) (other a n) (ap bitAt (getD-set-other after (first + k) a row [] n))
 
@@ -163,7 +163,7 @@ module _ {some t : ℕ → Bool} {s u : ℕ → ℕ → Bool} {lines : List (Lis
     unfolding having
     lines-take {w} {v} {next} e f h j = record {
       size = j .size ∙ g .size;
-      row = λ a l k. j .row a l ∙ ap₂ (λ b r. joinIf b r v) (at f a ∙ meet-at (s p) some a ∙ ap (λ b. s p a && b) k ∙ and-true (s p a)) (g .row a l k) ∙ go a (s p a) refl;
+      row = λ a l k. j .row a l ∙ ap₂ (λ b r. joinIf b r v) (point f a ∙ meet-at (s p) some a ∙ ap (λ b. s p a && b) k ∙ and-true (s p a)) (g .row a l k) ∙ go a (s p a) refl;
     }
       where
         go : (a : ℕ) (b : Bool) → s p a ≡ b → joinIf (s p a) (union (having t s a) u p) v ≡ union (having t s a) u (p + 1)
@@ -187,7 +187,7 @@ module _ {m : Model} {some : ℕ → Bool} {g : Gathered} {sel alw outs backs : 
       ∙ line-meet policySlots (bitAt (g .standing)) _ _ _ _ a f ∙ row-law m (x .slots) (x .sets) (x .standing) a
     where
       out : Picks policySlots (directionSet m egress) (bits sel) (bits alw) a (bitAt (g .bound) a) (bits outs a)
-      out = record { any = at (x .bound) a; joined = x .out .row a l k }
+      out = record { any = point (x .bound) a; joined = x .out .row a l k }
 
       back : Picks policySlots (directionSet m ingress) (bits alw) (bits sel) a (union (directionSet m ingress) (bits alw) policySlots a) (bits backs a)
       back = record { any = refl; joined = x .back .row a l k }

@@ -11,7 +11,7 @@ fn row_ok(memory: &[u64], r: usize, owner: u64, standing: [u64; 4]) -> bool
     requires { ⌜ Whole (now memory) × (r < rowCount) ⌝ }
     ensures { λ t. ⌜ t ≡ rowOk (now (memory .entry)) (bitAt standing) owner r ⌝ }
 {
-    let row = store::row_at(memory, r);
+    let row = access::row_at(memory, r);
     if owner == 0 {
         return row_reads::is_empty(row);
     }
@@ -81,7 +81,7 @@ pub fn well_formed(memory: &[u64]) -> bool
     if !entry_tests::policies_ok(memory) {
         return false;
     }
-    let standing = formed::containers_standing(memory);
+    let standing = stored::containers_standing(memory);
     if !matrix_ok(memory, standing) {
         return false;
     }

@@ -26,7 +26,7 @@ use Rattle.model.specs.ModelStep.{opening, placing, placingPolicy, admit
 use Rattle.model.specs.Registry.{Registry, computed, consistent, FollowsRules, changeContainer, rebuilt}
 use Rattle.model.specs.Refusals.{where0, slotChecks, pairChecks, noRoom, refusals}
 use Rattle.model.specs.RegistryStep.{admitContainer, admitPolicy, admitEntry, takePolicy, answerTo, acceptedStep, unlessRefused, registryStep}
-use Rattle.model.proofs.Tables.{at-lowest, full-lowest, free-at, beyond-ltb}
+use Rattle.model.proofs.Tables.{lowest-is-free, full-lowest, free-at, beyond-ltb}
 use Rattle.model.proofs.Unchanged.{container-changed, policy-admitted, policy-removed, opened-computed}
 use Rattle.model.proofs.Kept.{Kept, step-keeps}
 use Rattle.model.proofs.Consistent.{consistent-exactly, computed-consistent}
@@ -109,7 +109,7 @@ module _ (m : Model) (sized : Sized m) where
       → cond (isFree o) (computed m, refusal 12) (admitPolicy (computed m) p o) ≡ asComputed (placingPolicy m p o)
   unfolding admitPolicy placingPolicy
   admit-policy p none e = refl
-  admit-policy p (some q) e = ap (λ r. (r, policyAt q)) (policy-admitted m q p (at-lowest (m .policies) q e))
+  admit-policy p (some q) e = ap (λ r. (r, policyAt q)) (policy-admitted m q p (lowest-is-free (m .policies) q e))
 
   admit-entry : (e : Entry) → cond (noRoom m e) (computed m, refusal 12) (admitEntry (computed m) e) ≡ asComputed (admitting m (accepted e))
   unfolding noRoom admitEntry admitting computed

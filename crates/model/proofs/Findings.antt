@@ -35,13 +35,13 @@ pub same-refl : (f : Finding) → same f f ≡ true
 unfolding same
 same-refl f = rw (eq-eqb (f .kind) (f .kind) refl, eq-eqb (f .a) (f .a) refl, eq-eqb (f .b) (f .b) refl)
 
-abbrev pub among : Finding → List Finding → Bool
-among g l = any (same g) l
+abbrev pub member : Finding → List Finding → Bool
+member g l = any (same g) l
 
 -- what holds of all of a list holds of what is listed there
-pub all-listed : (P : Finding → Type 0) (g : Finding) (l : List Finding) → All P l → among g l ≡ true → P g
+pub all-listed : (P : Finding → Type 0) (g : Finding) (l : List Finding) → All P l → member g l ≡ true → P g
 all-listed P g [] t h = absurd (false≢true h)
-all-listed P g (x ∷ l) t h = either (same g x) (among g l) (λ e. subst P (sym (same-eq g x e)) (t .0)) (all-listed P g l (t .1)) h
+all-listed P g (x ∷ l) t h = either (same g x) (member g l) (λ e. subst P (sym (same-eq g x e)) (t .0)) (all-listed P g l (t .1)) h
 
 -- g is of kind x, whose number is k
 abbrev pub isOf : ℕ → Kind → Finding → Bool
@@ -60,7 +60,7 @@ here-step true true false f t h = and-false t
 here-step true true true f t h = and-true t ∙ h refl refl
 
 module _ (g : Finding) where
-  row-listed : (k : ℕ) (f : ℕ → ℕ → Bool) (a : ℕ) (bs : List ℕ) → among g (rowOf k f a bs)
+  row-listed : (k : ℕ) (f : ℕ → ℕ → Bool) (a : ℕ) (bs : List ℕ) → member g (rowOf k f a bs)
       ≡ (eqb (g .kind) k && (eqb (g .a) a && (elem (g .b) bs && f (g .a) (g .b))))
   unfolding same
   row-listed k f a [] = simp and-false
@@ -70,7 +70,7 @@ module _ (g : Finding) where
       (λ p q. ap₂ f (sym (eqb-true (g .a) a p)) (sym (eqb-true (g .b) b q)))) (row-listed k f a bs)
       ∙ simp (and-or-distrib-right, and-or-distrib-left)
 
-  kind-listed : (k : ℕ) (f : ℕ → ℕ → Bool) (l bs : List ℕ) → among g (ofKind k f l bs) ≡ isOf k (record { firsts = l; seconds = bs; holds = f }) g
+  kind-listed : (k : ℕ) (f : ℕ → ℕ → Bool) (l bs : List ℕ) → member g (ofKind k f l bs) ≡ isOf k (record { firsts = l; seconds = bs; holds = f }) g
   kind-listed k f [] bs = simp and-false
   kind-listed k f (a ∷ l) bs =
       any-append (same g) (rowOf k f a bs) (ofKind k f l bs)
@@ -78,7 +78,7 @@ module _ (g : Finding) where
       ∙ simp (and-or-distrib-right, and-or-distrib-left)
 
   -- Those listed of a list of kinds are those of one of them
-  pub kinds-listed : (k : ℕ) (xs : List Kind) → among g (ofKinds k xs) ≡ isOfOne k xs g
+  pub kinds-listed : (k : ℕ) (xs : List Kind) → member g (ofKinds k xs) ≡ isOfOne k xs g
   kinds-listed k [] = refl
   kinds-listed k (x ∷ xs) =
       any-append (same g) (ofKind k (x .holds) (x .firsts) (x .seconds)) (ofKinds (suc k) xs)
@@ -95,7 +95,7 @@ irrelevance-seconds m s a b = pick (eqb b 0) (eqb b 1) _ _
     pick false false u v = refl
 
 -- A triple is in the list of findings if and only if the entries it speaks of stand and show it by its definition
-pub findings-shown : (m : Model) (s : Bits) (g : Finding) → among g (findings m s) ≡ shown m s g
+pub findings-shown : (m : Model) (s : Bits) (g : Finding) → member g (findings m s) ≡ shown m s g
 unfolding findings kinds shown
 findings-shown m s g = kinds-listed g 1 (kinds m s) ∙ simp (elem-standing, or-false, irrelevance-seconds)
 
@@ -229,13 +229,13 @@ unfolding findings
 findings-from m s = kinds-from 1 1 (kinds m s) (le-refl 1)
 
 -- In a rising list each finding stands once
-rising-once : (g : Finding) (l : List Finding) → Rising l → count (same g) l ≡ cond (among g l) 1 0
+rising-once : (g : Finding) (l : List Finding) → Rising l → count (same g) l ≡ cond (member g l) 1 0
 rising-once g [] s = refl
 rising-once g (x ∷ l) s = pick (same g x) refl (rising-once g l (s .1))
   where
-    pick : (t : Bool) → same g x ≡ t → count (same g) l ≡ cond (among g l) 1 0 → cond t 1 0 + count (same g) l ≡ cond (t || among g l) 1 0
+    pick : (t : Bool) → same g x ≡ t → count (same g) l ≡ cond (member g l) 1 0 → cond t 1 0 + count (same g) l ≡ cond (t || member g l) 1 0
     pick true e r =
-        let gone : among g l ≡ false = denied (among g l) (λ h. cc (all-listed (After x) g l (s .0) h, same-eq g x e, after-self x)) in
+        let gone : member g l ≡ false = denied (member g l) (λ h. cc (all-listed (After x) g l (s .0) h, same-eq g x e, after-self x)) in
         rw (r, gone)
     pick false e r = zero-add (count (same g) l) ∙ r
 

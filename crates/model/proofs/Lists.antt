@@ -1,6 +1,6 @@
 -- Laws of tests, lists and standing slots that the files beside this one share.
 use mathlib.Core.Path.{_≡_, refl, ap, _∙_}
-use mathlib.Core.Bool.{Bool, true, false, _&&_, _||_, cond, or-true, or-assoc}
+use mathlib.Core.Bool.{Bool, true, false, _&&_, _||_, cond, or-true, or-assoc, and-eq-true-iff}
 use mathlib.Core.List.{List, [], _∷_, _++_}
 use mathlib.Core.Option.{none, some}
 use Prim.Native.Nat.{ℕ, zero, suc, _+_, _≤_, _<_}
@@ -10,6 +10,10 @@ use lib.Dec.{eqb}
 use lib.ListN.{length}
 use borrow.Author.Tests.{eq-eqb, ne-eqb}
 use Rattle.model.specs.Table.{Table, any, stands, standing, standingFrom, upFrom}
+
+-- both parts of a conjunction
+pub both : (a b : Bool) → (a && b) ≡ true → (a ≡ true) × (b ≡ true)
+both a b = and-eq-true-iff a b .0
 
 pub either : {P : Type 0} (a b : Bool) → (a ≡ true → P) → (b ≡ true → P) → (a || b) ≡ true → P
 either true b f g h = f refl

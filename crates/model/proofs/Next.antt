@@ -12,7 +12,7 @@ use Rattle.model.specs.Table.{first}
 use Rattle.model.specs.Model.{Model, Bits}
 use Rattle.model.specs.Findings.{findings, shown, placeOf, after, nextAfter, start, walk}
 use Rattle.model.proofs.Lists.{either, or-right, All, all-map}
-use Rattle.model.proofs.Findings.{among, same, same-eq, same-refl, all-listed, findings-shown}
+use Rattle.model.proofs.Findings.{member, same, same-eq, same-refl, all-listed, findings-shown}
 use Rattle.model.proofs.Findings.{After, Rising, FromKind, after-turn, after-self, after-equal, after-kind, findings-rising, findings-from}
 
 -- g is there, after the place, and none of those there stands between
@@ -40,16 +40,16 @@ module _ (there : Finding → Bool) (c : Place) where
 
 -- the test of what is listed
 abbrev pub inList : List Finding → Finding → Bool
-inList l g = among g l
+inList l g = member g l
 
 module _ (c : Place) (x : Finding) (l : List Finding) where
   -- one more at the head, not after the place
   past : after c x ≡ false → (o : Option Finding) → Nearest (inList l) c o → Nearest (inList (x ∷ l)) c o
-  past d none s = λ h. either (same h x) (among h l) (λ e. cc (same-eq h x e)) (s h)
+  past d none s = λ h. either (same h x) (member h l) (λ e. cc (same-eq h x e)) (s h)
   past d (some g) s = record {
-    is = or-right (same g x) (among g l) (s .is);
+    is = or-right (same g x) (member g l) (s .is);
     later = s .later;
-    least = λ h. either (same h x) (among h l) (λ e a. cc (same-eq h x e)) (s .least h);
+    least = λ h. either (same h x) (member h l) (λ e a. cc (same-eq h x e)) (s .least h);
   }
 
   -- the head is after the place
@@ -57,7 +57,7 @@ module _ (c : Place) (x : Finding) (l : List Finding) where
   here s d = record {
     is = rw (same-refl x);
     later = d;
-    least = λ h. either (same h x) (among h l) (λ e a. cc (same-eq h x e, after-self x)) (λ i a. after-turn x h (all-listed (After x) h l (s .0) i));
+    least = λ h. either (same h x) (member h l) (λ e a. cc (same-eq h x e, after-self x)) (λ i a. after-turn x h (all-listed (After x) h l (s .0) i));
   }
 
 first-nearest : (c : Place) (l : List Finding) → Rising l → Nearest (inList l) c (first (after c) l)

@@ -13,11 +13,11 @@ use Rattle.model.specs.Table.{Table, isFree, at, free, next, lowestFree,
 
 module _ {A : Type 0} where
   -- the slot that the search finds is free
-  pub at-lowest : (t : Table A) (i : ℕ) → lowestFree t ≡ some i → at t i ≡ none
-  at-lowest [] i e = refl
-  at-lowest (none ∷ t) zero e = refl
-  at-lowest (none ∷ t) (suc i) e = let z : _≡_ {A = ℕ} 0 (suc i) = cc in absurd (omega arith)
-  at-lowest (some x ∷ t) i e = pick (lowestFree t) (at-lowest t) i e
+  pub lowest-is-free : (t : Table A) (i : ℕ) → lowestFree t ≡ some i → at t i ≡ none
+  lowest-is-free [] i e = refl
+  lowest-is-free (none ∷ t) zero e = refl
+  lowest-is-free (none ∷ t) (suc i) e = let z : _≡_ {A = ℕ} 0 (suc i) = cc in absurd (omega arith)
+  lowest-is-free (some x ∷ t) i e = pick (lowestFree t) (lowest-is-free t) i e
     where
       pick : (o : Option ℕ) → ((j : ℕ) → o ≡ some j → at t j ≡ none) → (i : ℕ) → next o ≡ some i → at (some x ∷ t) i ≡ none
       pick none h i e = let z : _≡_ {A = ℕ} 0 1 = cc in absurd (omega arith)

@@ -23,7 +23,7 @@ pub fn put_policy(
 {
     let q = slot.0;
     let words = policy_entries::slot_words(direction, select, allow);
-    let standing = formed::containers_standing(memory);
+    let standing = stored::containers_standing(memory);
     let selected = policy_entries::settle(memory, q, words, standing);
     matrix_resets::reset(memory, q, direction, selected, standing);
 }
@@ -35,7 +35,7 @@ pub fn take_policy(memory: &mut [u64], slot: PolicySlot)
 {
     let q = slot.0;
     let direction = memory[store::POLICIES + store::POLICY_WORDS * q];
-    let standing = formed::containers_standing(memory);
+    let standing = stored::containers_standing(memory);
     let selected = policy_entries::selected_row(memory, q, standing);
     let words = [0u64; store::POLICY_WORDS];
     policy_entries::settle(memory, q, words, standing);

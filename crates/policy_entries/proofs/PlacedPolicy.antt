@@ -11,13 +11,13 @@ use lib.ListN.{length, set, length-set}
 use lib.Seq.{getD-set-same, getD-set-other}
 use borrow.Author.Tests.{le-ltb, eq-eqb, ne-eqb}
 use Rattle.bitrow.specs.Bit.{bitAt}
-use Rattle.bitrow.proofs.Sets.{at as point}
+use Rattle.bitrow.proofs.Sets.{point}
 use Rattle.block.specs.Entry.{Policy, policy}
 use Rattle.block.specs.Written.{validEntry}
 use Rattle.model.specs.Table.{on, at, stands}
-use Rattle.model.specs.Model.{containerSlots, Model, withPolicy}
+use Rattle.model.specs.Model.{Model, withPolicy}
 use Rattle.model.specs.Registry.{Registry}
-use Rattle.store.specs.Layout.{containersStart, containerWords, policiesStart, policyWords, policyStart, selectedRow, allowedRow}
+use Rattle.store.specs.Layout.{containersStart, containerWords, policiesStart, policyWords, rowCount, policyStart, selectedRow, allowedRow}
 use Rattle.store.specs.Contents.{Holds}
 use Rattle.store.specs.Memory.{slotSet, rowSet, withSlot, withRow}
 use Rattle.store.proofs.Cases.{by-ltb, by-eqb}
@@ -31,17 +31,13 @@ use Rattle.policy_entries.specs.PolicyEntry.{SlotWords, Admissible, poli
 
 -- a row made s of a registry's memory is the change of its bits that makes the row s and leaves the others
 row-changed : (r r′ : Registry) (k : ℕ) (s : ℕ → Bool) → r .model ≡ r′ .model → ((y : ℕ) → storedBit (r′ .bits) k y ≡ s y)
-    → ((x y : ℕ) → (x ≡ k → ⊥) → storedBit (r .bits) x y ≡ storedBit (r′ .bits) x y) → SameContents (withRow (contentsOf r) k s) (contentsOf r′)
+    → ((x y : ℕ) → x < rowCount → (x ≡ k → ⊥) → storedBit (r .bits) x y ≡ storedBit (r′ .bits) x y) → SameContents (withRow (contentsOf r) k s) (contentsOf r′)
 unfolding contentsOf withRow
 row-changed r r′ k s same here others = record {
   words = λ i l. ap (λ (m : Model). entryWord m i) same;
   bits = λ x y hx hy. by-eqb (λ t. cond t s (storedBit (r .bits) x) y ≡ storedBit (r′ .bits) x y) x k
-      (λ e. sym (here y) ∙ ap (λ (j : ℕ). storedBit (r′ .bits) j y) (sym e)) (λ n. others x y n);
+      (λ e. sym (here y) ∙ ap (λ (j : ℕ). storedBit (r′ .bits) j y) (sym e)) (λ n. others x y hx n);
 }
-
--- a row stored, its number written in another way
-pub row-numbered : (m row : List ℕ) (x y : ℕ) {e : List ℕ} → e ≡ rowSet m x row → x ≡ y → e ≡ rowSet m y row
-row-numbered m row x y f q = f ∙ ap (λ (k : ℕ). rowSet m k row) q
 
 -- one row of a table made s
 abbrev pub made : ℕ → (ℕ → Bool) → (ℕ → ℕ → Bool) → ℕ → ℕ → Bool
@@ -104,7 +100,7 @@ module _ (r : Registry) (q : ℕ) (x : Option Policy) (hq : q < 128) where
     placed-slot h enough =
         holds-as (holds-slot h (policyStart q) policyWords ws (omega arith) enough) _ (record {
           words = λ k l. policy-slot-word k (decLe (policyStart q) k) (decLt k (policyStart q + policyWords));
-          bits = λ i y a b. stored-cong _ _ i y (λ l. refl) (λ l e. made-same q (r .bits .selected) ((i - containerSlots) / 2) y) (λ l e. made-same q (r .bits .allowed) ((i - containerSlots) / 2) y);
+          bits = λ x y l _. stored-cong _ _ x y l (λ a _ _. refl) (λ i _ _. made-same q (r .bits .selected) i y) (λ i _ _. made-same q (r .bits .allowed) i y);
         })
 
   module _ {m : List ℕ} (s a : ℕ → Bool) (h : Holds m (contentsOf (policyPlaced r q x s a))) (row : List ℕ) where
@@ -114,8 +110,8 @@ module _ (r : Registry) (q : ℕ) (x : Option Policy) (hq : q < 128) where
         let b = policyPlaced r q x s a .bits in
         let b′ = policyPlaced r q x (bitAt row) a .bits in
         holds-as (holds-row h (selectedRow q) row (omega arith)) _ (row-changed (policyPlaced r q x s a) (policyPlaced r q x (bitAt row) a) (selectedRow q) (bitAt row) refl
-        (λ y. point (stored-selected b′ q) y ∙ made-here q (bitAt row) (r .bits .selected) y)
-        (λ i y n. stored-cong b b′ i y (λ l. refl) (λ l e. made-other q s (bitAt row) (r .bits .selected) ((i - containerSlots) / 2) y (λ z. n (omega arith))) (λ l e. refl)))
+        (λ y. point (stored-selected b′ q hq) y ∙ made-here q (bitAt row) (r .bits .selected) y)
+        (λ x y l n. stored-cong b b′ x y l (λ a _ _. refl) (λ i _ e. made-other q s (bitAt row) (r .bits .selected) i y (λ z. n (e ∙ ap selectedRow z))) (λ i _ _. refl)))
 
     pub placed-allowed : Holds (rowSet m (allowedRow q) row) (contentsOf (policyPlaced r q x s (bitAt row)))
     unfolding policyPlaced
@@ -123,8 +119,8 @@ module _ (r : Registry) (q : ℕ) (x : Option Policy) (hq : q < 128) where
         let b = policyPlaced r q x s a .bits in
         let b′ = policyPlaced r q x s (bitAt row) .bits in
         holds-as (holds-row h (allowedRow q) row (omega arith)) _ (row-changed (policyPlaced r q x s a) (policyPlaced r q x s (bitAt row)) (allowedRow q) (bitAt row) refl
-        (λ y. point (stored-allowed b′ q) y ∙ made-here q (bitAt row) (r .bits .allowed) y)
-        (λ i y n. stored-cong b b′ i y (λ l. refl) (λ l e. refl) (λ l e. made-other q a (bitAt row) (r .bits .allowed) ((i - containerSlots) / 2) y (λ z. n (omega arith)))))
+        (λ y. point (stored-allowed b′ q hq) y ∙ made-here q (bitAt row) (r .bits .allowed) y)
+        (λ x y l n. stored-cong b b′ x y l (λ a _ _. refl) (λ i _ _. refl) (λ i _ e. made-other q a (bitAt row) (r .bits .allowed) i y (λ z. n (e ∙ ap allowedRow z)))))
 
   -- bits of a policy's set are of a slot that stands and of standing containers
   abbrev pub Owned : (ℕ → Bool) → Type 0

@@ -1,6 +1,6 @@
 -- The slot written, its sets cleared and then set by the entries: the memory of the registry that has the policy settled.
 use mathlib.Core.Path.{_≡_, refl, sym, ap, ap₂, _∙_, subst, fun-ext}
-use mathlib.Core.Bool.{Bool, true, _&&_}
+use mathlib.Core.Bool.{false≢true, Bool, true, _&&_}
 use mathlib.Core.List.{List}
 use mathlib.Core.Option.{Option, none, some}
 use Prim.Native.Nat.{ℕ, _<_, _≤_}
@@ -17,7 +17,6 @@ use Rattle.store.specs.Contents.{Holds}
 use Rattle.store.specs.Memory.{slotSet, rowSet}
 use Rattle.store.proofs.Carried.{holds-by}
 use Rattle.formed.specs.Registry.{modelIn, bitsIn, registryIn, contentsOf, image, Acceptable, wellFormed}
-use Rattle.formed.proofs.Tests.{clash}
 use Rattle.formed.proofs.Back.{image-written, registry-image}
 use Rattle.formed.proofs.Formed.{formed-memory, formed-holds, acceptable-image}
 use Rattle.formed.proofs.StoredLaws.{Fit}
@@ -78,7 +77,7 @@ module _ (m : List ℕ) (ok : wellFormed m ≡ true) (q : ℕ) (hq : q < 128) (x
   -- the slot written, its sets cleared
   emptied-acceptable : Acceptable (policyPlaced (registryIn m) q x nothing nothing)
   unfolding nothing registryIn
-  emptied-acceptable = policy-acceptable (registryIn m) q x hq fine v nothing nothing (λ c b. clash b) (λ c b. clash b)
+  emptied-acceptable = policy-acceptable (registryIn m) q x hq fine v nothing nothing (λ c b. absurd (false≢true b)) (λ c b. absurd (false≢true b))
 
   module _ {ws : List ℕ} (w : SlotWords x ws) (nobody : List ℕ) {e1 e2 e3 : List ℕ} (clear : bitAt nobody ≡ nothing) (enough : policyWords ≤ length ws)
       (f1 : e1 ≡ slotSet m (policyStart q) policyWords ws) (f2 : e2 ≡ rowSet e1 (selectedRow q) nobody) (f3 : e3 ≡ rowSet e2 (allowedRow q) nobody) where

@@ -64,20 +64,20 @@ pub fn settle(
     requires { ⌜ bitAt standing ≡ stands (modelIn (now memory) .containers) ⌝ }
     ensures { λ r. ⌜ Settles (now (memory .entry)) q words (now (memory .exit)) r ⌝ }
 {
-    let selects = store::CONTAINER_SLOTS + 2 * q;
-    let allows = selects + 1;
+    let selects = store::SELECTED_ROWS + store::SET_STEP * q;
+    let allows = store::ALLOWED_ROWS + store::SET_STEP * q;
     let nobody = bitrow::none();
-    store::set_slot(
+    access::set_slot(
         memory,
         store::POLICIES + store::POLICY_WORDS * q,
         store::POLICY_WORDS,
         words,
     );
-    store::set_row(memory, selects, nobody);
-    store::set_row(memory, allows, nobody);
+    access::set_row(memory, selects, nobody);
+    access::set_row(memory, allows, nobody);
     let selected = selected_row(memory, q, standing);
     let allowed = allowed_row(memory, q, standing);
-    store::set_row(memory, selects, selected);
-    store::set_row(memory, allows, allowed);
+    access::set_row(memory, selects, selected);
+    access::set_row(memory, allows, allowed);
     selected
 }

@@ -6,7 +6,6 @@ use Prim.Native.Nat.{ℕ, _≤_, _<_}
 use native.Mathlib.Decide.{ℕ-discrete}
 use native.Mathlib.Omega.{arith}
 use lib.Dec.{eqb, ltb}
-use borrow.Author.Tests.{eq-eqb, ne-eqb, le-ltb}
 use Rattle.bitrow.specs.Set.{nothing, meet, hasSome}
 use Rattle.bitrow.proofs.Sets.{meet-at}
 use Rattle.bitrow.proofs.Tests.{hasSome-clear, hasSome-absent}
@@ -15,65 +14,28 @@ use Rattle.model.specs.Findings as model
 use Rattle.formed.specs.Registry.{modelIn, bitsIn, wellFormed}
 use Rattle.store.proofs.Cases.{by-eqb}
 use Rattle.container_findings.specs.Rows.{shownAt, policiesStand}
-use Rattle.policy_findings.specs.Comparisons.{comparison}
+use Rattle.policy_pairs.specs.Comparisons.{comparison}
 use Rattle.container_findings.proofs.KindRows.{no-kind, of-kind}
 use Rattle.policy_findings.proofs.PolicyKinds.{at-5, at-6, at-7}
-use Rattle.policy_findings.proofs.SetTests.{some-selected, some-allowed, connected-is, conflict-is}
+use Rattle.policy_pairs.proofs.SetTests.{some-selected, some-allowed, connected-is, conflict-is}
 
 meet-none : (s t : ℕ → Bool) → hasSome s ≡ false → hasSome (meet s t) ≡ false
 meet-none s t e = hasSome-clear (meet s t) (λ j h. meet-at s t j ∙ ap (λ x. x && t j) (hasSome-absent s e j h))
-
--- ---- what kind 5, or else 6, says of two policies
-
-module _ (k : ℕ) (m : List ℕ) (a b : ℕ) where
-  abbrev kindSaid : Bool → Bool
-  kindSaid t = cond t (shadow (modelIn m) (bitsIn m)) (conflict (modelIn m) (bitsIn m)) a b
-
-  pub comparison-5 : k ≡ 5 → comparison k m a b ≡ shadow (modelIn m) (bitsIn m) a b
-  unfolding comparison
-  comparison-5 e = ap kindSaid (eq-eqb k 5 e)
-
-  pub comparison-6 : (k ≡ 5 → ⊥) → comparison k m a b ≡ conflict (modelIn m) (bitsIn m) a b
-  unfolding comparison
-  comparison-6 e = ap kindSaid (ne-eqb k 5 e)
-
-  -- a conflict is listed once, at the lower of the two
-  pub comparison-below : (k ≡ 5 → ⊥) → b ≤ a → comparison k m a b ≡ false
-  unfolding conflict
-  comparison-below e h = comparison-6 e ∙ shut (ltb a b) _ (le-ltb a b h)
-    where
-      shut : (x y : Bool) → x ≡ false → (x && y) ≡ false
-      shut x y q = ap (λ t. t && y) q
-
-  -- policies of different directions
-  pub comparison-apart : model.oneDirection (modelIn m) a b ≡ false → comparison k m a b ≡ false
-  unfolding comparison shadow conflict
-  comparison-apart h = pick (eqb k 5)
-    where
-      apart : (x y : Bool) → (x && (model.oneDirection (modelIn m) a b && y)) ≡ false
-      apart x y = ap (λ t. x && (t && y)) h ∙ and-false x
-
-      pick : (t : Bool) → kindSaid t ≡ false
-      pick true = apart (not (eqb a b)) _
-      pick false = apart (ltb a b) _
 
 -- ---- rows
 
 module _ (m : List ℕ) (ok : wellFormed m ≡ true) (a : ℕ) (h : policiesStand m a ≡ true) where
   -- the standing policies that pass a kind's test
-  shadow-row : {row : ℕ → Bool} → row ≡ policiesStand m → meet row (shadow (modelIn m) (bitsIn m) a) ≡ shownAt m 5 a
+  passing-row : (k : ℕ) (f : ℕ → Bool) → ((b : ℕ) → shownAt m k a b ≡ (policiesStand m a && (policiesStand m b && f b)))
+      → {row : ℕ → Bool} → row ≡ policiesStand m → meet row f ≡ shownAt m k a
   unfolding meet
-  shadow-row e = ap (λ s b. s b && shadow (modelIn m) (bitsIn m) a b) e ∙ fun-ext (λ b. sym (at-5 m a b ∙ ap (λ t. t && (policiesStand m b && shadow (modelIn m) (bitsIn m) a b)) h))
-
-  conflict-row : {row : ℕ → Bool} → row ≡ policiesStand m → meet row (conflict (modelIn m) (bitsIn m) a) ≡ shownAt m 6 a
-  unfolding meet
-  conflict-row e = ap (λ s b. s b && conflict (modelIn m) (bitsIn m) a b) e ∙ fun-ext (λ b. sym (at-6 m a b ∙ ap (λ t. t && (policiesStand m b && conflict (modelIn m) (bitsIn m) a b)) h))
+  passing-row k f shown e = ap (λ s b. s b && f b) e ∙ fun-ext (λ b. sym (shown b ∙ ap (λ t. t && (policiesStand m b && f b)) h))
 
   pub comparison-row : {row : ℕ → Bool} → row ≡ policiesStand m → (k : ℕ) → 5 ≤ k → k < 7 → meet row (comparison k m a) ≡ shownAt m k a
   unfolding comparison
   comparison-row {row} e k l h =
       by-eqb (λ t. meet row (cond t (shadow (modelIn m) (bitsIn m)) (conflict (modelIn m) (bitsIn m)) a) ≡ shownAt m k a) k 5
-      (λ q. of-kind m 5 k a (shadow-row e) q) (λ q. of-kind m 6 k a (conflict-row e) (omega arith))
+      (λ q. of-kind m 5 k a (passing-row 5 _ (at-5 m a) e) q) (λ q. of-kind m 6 k a (passing-row 6 _ (at-6 m a) e) (omega arith))
 
   -- a set of a is empty: no shadow and no conflict
   shadow-none : (hasSome (bitsIn m .selected a) && hasSome (bitsIn m .allowed a)) ≡ false → nothing ≡ shownAt m 5 a

@@ -14,8 +14,7 @@ use Rattle.model.specs.Table.{Table, on, stands, free}
 use Rattle.model.specs.Rules.{carries}
 use Rattle.model.specs.Model.{containerSlots}
 use Rattle.model.specs.Findings.{containersOf, policiesOf, pairs}
-use Rattle.model.specs.Calls.{ask, askReaches, askUser, counts, audit, refusal, says, counted}
-use Rattle.model.specs.Registry.{consistent}
+use Rattle.model.specs.Calls.{ask, askReaches, askUser, counts, refusal, says, counted}
 use Rattle.model.specs.Refusals.{pairChecks, refusals}
 use Rattle.model.proofs.Agreement.{orRefusal}
 use Rattle.store.specs.Layout.{containersStart, containerWords, containerStart, rowStart, wordAt, rowBit}
@@ -27,9 +26,9 @@ use Rattle.entries.proofs.PartLabels.{label-of}
 use Rattle.entries.proofs.Keys.{carries-word}
 use Rattle.entries.proofs.FormedEntries.{formed-labels}
 use Rattle.steps.specs.MemoryStep.{memoryStep}
-use Rattle.steps.proofs.Outcomes.{step-refused, reaches-says, user-says, counts-answers, audit-says}
+use Rattle.steps.proofs.Outcomes.{step-refused, reaches-says, user-says, counts-answers}
 use Rattle.call_tests.specs.Tests.{slotTest}
-use Rattle.call_tests.proofs.TestLaws.{slotTests, containerTest, container-free, container-passed}
+use Rattle.call_tests.proofs.TestLaws.{slotTests, containerTest, container-free-in, container-passed}
 
 -- ---- a pair of slots
 
@@ -59,7 +58,7 @@ module _ (m : List ℕ) (formed : wellFormed m ≡ true) where
       unfolding refusals registryIn
       pair-refused e =
           step-refused m formed (ask (askReaches a b)) r
-          (pair-checks containerSlots (modelIn m .containers) (freeIn m containersStart containerWords) (container-free m) a b (lt-leb containerSlots b k) ∙ e)
+          (pair-checks containerSlots (modelIn m .containers) (freeIn m containersStart containerWords) (container-free-in m) a b (lt-leb containerSlots b k) ∙ e)
 
       pub reaches-refused-left : containerTest m a ≡ Refused r → memoryStep m (ask (askReaches a b)) ≡ (m, refusal (r .number))
       unfolding orRefusal
@@ -107,6 +106,3 @@ module _ (m : List ℕ) (formed : wellFormed m ≡ true) where
   pub counts-answer : (a b n : ℕ) → a ≡ length (containersOf (modelIn m)) → b ≡ length (policiesOf (modelIn m)) → n ≡ pairs (bitsIn m)
       → memoryStep m (ask counts) ≡ (m, counted a b n)
   counts-answer a b n e f g = counts-answers m formed ∙ rw (e, f, g)
-
-  pub audit-answer : (t : Bool) → t ≡ consistent (registryIn m) → memoryStep m (ask audit) ≡ (m, says t)
-  audit-answer t h = audit-says m formed ∙ ap (λ x. (m, says x)) (sym h)

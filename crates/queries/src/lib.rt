@@ -1,6 +1,6 @@
-// The calls that ask: of a pair, of a container's value, of the counts, and whether the stored bits are by the rules.
+// The calls that ask: of a pair, of a container's value, of the counts.
 ghost use mathlib.Core.Path.{_≡_};
-ghost use Rattle.model.specs.Calls.{ask, askReaches, askUser, counts, audit};
+ghost use Rattle.model.specs.Calls.{ask, askReaches, askUser, counts};
 ghost use Rattle.steps.specs.MemoryStep.{memoryStep};
 ghost use Rattle.answers.specs.Answers.{replyAnswer, countedAnswer};
 use answers::Counted;
@@ -86,16 +86,4 @@ pub fn counts(memory: &[u64]) -> Counted
     let policies = counts::count_policies(memory);
     let pairs = counts::pairs(memory);
     Counted::Counts(containers, policies, pairs)
-}
-
-// Whether every stored bit is by the rules.
-pub fn audit(memory: &[u64]) -> Reply
-    ensures { λ r. ⌜ (now (memory .entry), replyAnswer r) ≡ memoryStep (now (memory .entry)) (ask audit) ⌝ }
-{
-    let tested = call_tests::test_memory(memory);
-    if let Tested::Refused(by) = tested {
-        return Reply::Refused(by.number);
-    }
-    let consistent = audit::is_consistent(memory);
-    Reply::Says(consistent)
 }

@@ -7,7 +7,7 @@ use Prim.Native.Nat.{ℕ, zero, suc, _<_}
 use lib.ListN.{length}
 use Rattle.bitrow.specs.Bit.{bitAt}
 use Rattle.bitrow.specs.Set.{some}
-use Rattle.bitrow.proofs.Sets.{at as point}
+use Rattle.bitrow.proofs.Sets.{point}
 use Rattle.bitrow.proofs.Tests.{some-cong}
 use Rattle.block.specs.Entry.{Container, Direction, ingress, egress}
 use Rattle.model.specs.Table.{Table, any, on, at, stands}

@@ -10,7 +10,7 @@ use lib.Dec.{eqb}
 use lib.ListN.{length}
 use Rattle.bitrow.specs.Bit.{bit, bitAt}
 use Rattle.bitrow.specs.Set.{under, meet}
-use Rattle.bitrow.proofs.Sets.{at as point}
+use Rattle.bitrow.proofs.Sets.{point}
 use Rattle.block.specs.Entry.{Direction, ingress, egress}
 use Rattle.block.specs.Reader.{directionOf}
 use Rattle.model.specs.Table.{on, at}

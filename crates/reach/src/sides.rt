@@ -17,8 +17,8 @@ fn of_direction(memory: &[u64], direction: u64) -> [u64; 4]
     ensures { λ r. ⌜ bitAt r ≡ directionSet (modelIn (now (memory .entry))) (directionOf direction) ⌝ }
 {
     [
-        formed::slots_with(memory, store::POLICIES, store::POLICY_WORDS, direction),
-        formed::slots_with(
+        stored::slots_with(memory, store::POLICIES, store::POLICY_WORDS, direction),
+        stored::slots_with(
             memory,
             store::POLICIES + 64 * store::POLICY_WORDS,
             store::POLICY_WORDS,

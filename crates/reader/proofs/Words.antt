@@ -18,7 +18,7 @@ use Rattle.block.specs.Bytes.{byteAt, numberAt}
 use Rattle.block.specs.Reader.{labelAt, labelsAt, directionOf, policySaid, entrySaid, settingsSaid}
 use Rattle.block.specs.Reading.{word, padded, packed, entryWords, settingsWords}
 use Rattle.block.specs.Written.{directionNumber}
-use Rattle.block.proofs.LabelLists.{length-labels}
+use Rattle.block.proofs.LabelLists.{length-labels-at}
 use Rattle.layouts.proofs.Layouts.{PolicyLimits}
 
 padded-set : (m : ℕ) (ws : List ℕ) (w : ℕ) → length ws < m → set (padded m ws) (length ws) w ≡ padded m (ws ++ (w ∷ []))
@@ -37,7 +37,7 @@ words-snoc b p (suc k) =
 pub words-next : (b : List ℕ) (p k key value : ℕ) (ws : List ℕ) → k < 8 → ws ≡ padded 8 (map word (labelsAt b p k)) → key ≡ numberAt b (p + 4 * k) → value ≡ numberAt b (p + 4 * k + 2) → set ws k (key * 65536 + value) ≡ padded 8 (map word (labelsAt b p (k + 1)))
 unfolding labelAt
 words-next b p k key value ws h e x y =
-    let l : length (map word (labelsAt b p k)) ≡ k = length-map (labelsAt b p k) word ∙ length-labels b p k in
+    let l : length (map word (labelsAt b p k)) ≡ k = length-map (labelsAt b p k) word ∙ length-labels-at b p k in
     let w : key * 65536 + value ≡ word (labelAt b (p + 4 * k)) = cc in
     ap (λ (us : List ℕ). set us k (key * 65536 + value)) e
     ∙ ap (set (padded 8 (map word (labelsAt b p k))) k) w
@@ -47,7 +47,7 @@ words-next b p k key value ws h e x y =
 
 pub words-done : (b : List ℕ) (p k n : ℕ) (ws : List ℕ) → k ≡ n → ws ≡ padded 8 (map word (labelsAt b p k)) → _≡_ {A = Labels} record { count = n; words = ws } (packed (labelsAt b p n))
 unfolding packed
-words-done b p k n ws h e = cc (length-labels b p n)
+words-done b p k n ws h e = cc (length-labels-at b p n)
 
 -- ---- what an accepted block says, as words
 

@@ -50,8 +50,8 @@ fn labels_at(block: &[u8], at: usize, n: usize) -> Labels
     let mut k: usize = 0;
     while k < n {
         let p = at + 4 * k;
-        let key = faults::number_at(block, p);
-        let value = faults::number_at(block, p + 2);
+        let key = block_bytes::number_at(block, p);
+        let value = block_bytes::number_at(block, p + 2);
         words[k] = key * 65536 + value;
         k += 1;
     }
@@ -72,7 +72,7 @@ fn container_said(block: &[u8]) -> EntryWords
     requires { ⌜ (length (now block) ≡ 512) × (containerLayout (now block) .limits ≡ Fault.Nowhere) ⌝ }
     ensures { λ r. ⌜ r ≡ entryWords (container (labelsAt (now (block .entry)) 4 (byteAt (now (block .entry)) 1))) ⌝ }
 {
-    let count = faults::size(block[1]);
+    let count = block_bytes::size(block[1]);
     let first = labels_at(block, 4, count);
     let second = no_labels();
     EntryWords {
@@ -88,9 +88,9 @@ fn policy_said(block: &[u8]) -> EntryWords
     requires { ⌜ (length (now block) ≡ 512) × (policyLayout (now block) .limits ≡ Fault.Nowhere) ⌝ }
     ensures { λ r. ⌜ r ≡ entryWords (policy (policySaid (now (block .entry)))) ⌝ }
 {
-    let direction = faults::wide(block[1]);
-    let select = faults::size(block[2]);
-    let allow = faults::size(block[3]);
+    let direction = block_bytes::wide(block[1]);
+    let select = block_bytes::size(block[2]);
+    let allow = block_bytes::size(block[3]);
     let first = labels_at(block, 4, select);
     let second = labels_at(block, 4 + 4 * select, allow);
     EntryWords {

@@ -38,9 +38,9 @@ fn settings_fault(block: &[u8]) -> Fault
     requires { ⌜ length (now block) ≡ 512 ⌝ }
     ensures { λ r. ⌜ r ≡ settingsFault (now (block .entry)) ⌝ }
 {
-    let user = faults::unless(faults::within(1, 64, faults::wide(block[1])), 1);
-    let key = faults::wide(block[2]);
-    let value = faults::number_at(block, 4);
+    let user = faults::unless(faults::within(1, 64, block_bytes::wide(block[1])), 1);
+    let key = block_bytes::wide(block[2]);
+    let value = block_bytes::number_at(block, 4);
     faults::or_else(user, system_fault(key, value))
 }
 
@@ -83,9 +83,9 @@ pub fn read_settings(block: &[u8]) -> SettingsReading
         };
     }
     let settings = Settings {
-        user_key: faults::wide(block[1]),
-        system_key: faults::wide(block[2]),
-        system_value: faults::number_at(block, 4),
+        user_key: block_bytes::wide(block[1]),
+        system_key: block_bytes::wide(block[2]),
+        system_value: block_bytes::number_at(block, 4),
     };
     SettingsReading { tested, settings }
 }

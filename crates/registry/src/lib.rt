@@ -9,13 +9,13 @@ pub use answers::NextFinding;
 pub use answers::Outcome;
 pub use answers::Reply;
 pub use opening::open;
-pub use queries::audit;
 pub use queries::carries_user;
 pub use queries::counts;
 pub use queries::reaches;
-pub use removal::rebuild;
 pub use removal::remove_container;
 pub use removal::remove_policy;
+pub use upkeep::audit;
+pub use upkeep::rebuild;
 pub use walks::findings;
 pub use walks::next_finding;
 

@@ -6,13 +6,13 @@ use mathlib.Core.Option.{none}
 use Prim.Native.Nat.{ℕ}
 use Rattle.block.specs.declared.Tested.the-variants.{Passed}
 use Rattle.model.specs.Table.{on, stands}
-use Rattle.model.specs.Calls.{change, removeContainer, removePolicy, rebuild, done}
-use Rattle.model.specs.Registry.{changeContainer, changePolicy, rebuilt}
+use Rattle.model.specs.Calls.{change, removeContainer, removePolicy, done}
+use Rattle.model.specs.Registry.{changeContainer, changePolicy}
 use Rattle.store.specs.Layout.{containerStart}
 use Rattle.formed.specs.Words.{partIn, policyAt}
 use Rattle.formed.specs.Registry.{modelIn, registryIn, image, wellFormed}
 use Rattle.steps.specs.MemoryStep.{memoryStep}
-use Rattle.steps.proofs.Outcomes.{remove-done, remove-policy-done, rebuild-done}
+use Rattle.steps.proofs.Outcomes.{remove-done, remove-policy-done}
 use Rattle.call_tests.proofs.TestLaws.{containerTest, policyTest, container-passed, policy-passed}
 
 module _ (m : List ℕ) where
@@ -32,7 +32,3 @@ module _ (m : List ℕ) where
     remove-policy-answer q e h =
         let p = policy-passed m q e in
         remove-policy-done m formed q (policyAt m q) (p .0) (p .1) ∙ ap (λ x. (x, done)) (sym h)
-
-    pub rebuild-answer : m′ ≡ image (rebuilt (registryIn m)) → memoryStep m (change rebuild) ≡ (m′, done)
-    unfolding rebuilt registryIn
-    rebuild-answer h = rebuild-done m formed ∙ ap (λ x. (x, done)) (sym h)

@@ -1,6 +1,6 @@
-// The calls that take an entry away, and the one that sets every stored bit by the rules.
+// The calls that take an entry away.
 ghost use mathlib.Core.Path.{_≡_};
-ghost use Rattle.model.specs.Calls.{change, removeContainer, removePolicy, rebuild};
+ghost use Rattle.model.specs.Calls.{change, removeContainer, removePolicy};
 ghost use Rattle.steps.specs.MemoryStep.{memoryStep};
 ghost use Rattle.answers.specs.Answers.{outcomeAnswer};
 use answers::Outcome;
@@ -49,17 +49,5 @@ pub fn remove_policy(memory: &mut [u64], slot: PolicySlot) -> Outcome
         return Outcome::Refused(by.number);
     }
     policy_changes::take_policy(memory, slot);
-    Outcome::Done
-}
-
-// Every stored bit set by the rules.
-pub fn rebuild(memory: &mut [u64]) -> Outcome
-    ensures { λ r. ⌜ (now (memory .exit), outcomeAnswer r) ≡ memoryStep (now (memory .entry)) (change rebuild) ⌝ }
-{
-    let tested = call_tests::test_memory(memory);
-    if let Tested::Refused(by) = tested {
-        return Outcome::Refused(by.number);
-    }
-    whole::rebuild(memory);
     Outcome::Done
 }

@@ -5,6 +5,7 @@ ghost use mathlib.Core.Bool.{false};
 ghost use Prim.Native.Nat.{_≤_, _<_};
 ghost use lib.ListN.{length};
 ghost use Rattle.sheets.specs.Left.{Does};
+ghost use Rattle.sheets.specs.Pieces.{takeStep};
 ghost use Rattle.sheets.specs.Step.{startState, finishedIn, reportStep, startedIn, ahead, Fed};
 pub use sheets::State;
 pub use sheets::Stepped;
@@ -28,6 +29,55 @@ pub fn finished(state: State) -> bool
     }
 }
 
+// A piece of input after n blocks and f bytes of the next.
+fn take(
+    memory: &mut [u64],
+    block: &mut [u8],
+    piece: &[u8],
+    ended: bool,
+    out: &mut [u8],
+    n: u64,
+    f: usize,
+) -> Stepped
+    requires { ⌜ (length (now block) ≡ 512) × (f < 512) × (128 ≤ length (now out)) ⌝ }
+    ensures { λ r. ⌜ Does (takeStep (now (memory .entry)) (now (block .entry)) (now (piece .entry)) ended n f) (now (memory .exit)) (now (block .exit)) (now (out .entry)) (now (out .exit)) r ⌝ }
+    ensures { λ r. ⌜ r .used ≤ length (now (piece .entry)) ⌝ }
+{
+    if n == u64::MAX {
+        return Stepped {
+            state: State::Counting,
+            used: 0,
+            put: 0,
+        };
+    }
+    let used = cuts::share(f, piece.len());
+    cuts::copy(block, f, piece, used);
+    let bytes = f + used;
+    if cuts::waits(bytes, ended) {
+        return Stepped {
+            state: State::Taking(n, bytes),
+            used,
+            put: 0,
+        };
+    }
+    if bytes == 0 {
+        let told = cuts::end_after(out, n);
+        let state = told.state;
+        return Stepped {
+            state,
+            used,
+            put: told.put,
+        };
+    }
+    let told = intake::take_block(memory, &block[..bytes], out, n);
+    let state = told.state;
+    Stepped {
+        state,
+        used,
+        put: told.put,
+    }
+}
+
 // Takes a piece of the input, or a part of it, or puts some text. `ended` says that the input ends with this piece; what was not used
 // of it is to be lent again. A step takes one block at most, so that a refused block's line is put before the next is looked at.
 pub fn step(
@@ -44,7 +94,7 @@ pub fn step(
     ensures { λ r. ⌜ (finishedIn state ≡ false → Fed (now (piece .entry)) ended → ahead (r .state) < ahead state) ⌝ }
 {
     match state {
-        State::Taking(n, f) => pieces::take(memory, block, piece, ended, out, n, f),
+        State::Taking(n, f) => take(memory, block, piece, ended, out, n, f),
         State::Counting => {
             let told = closing::tell_counts(memory, out);
             let state = told.state;

@@ -142,7 +142,7 @@ fn put_checksum(block: &mut [u8], above: u8)
     requires { ⌜ length (now block) ≡ 512 ⌝ }
     ensures { λ _. ⌜ now (block .exit) ≡ sets (now (block .entry)) 510 (numberBytes ((checksum (now (block .entry)) + above) % 65521)) ⌝ }
 {
-    let sum = (faults::checksum(block) + faults::wide(above)) % 65521;
+    let sum = (block_bytes::checksum(block) + block_bytes::wide(above)) % 65521;
     block[510] = (sum / 256) as u8;
     block[511] = (sum % 256) as u8;
 }

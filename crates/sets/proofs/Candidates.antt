@@ -164,8 +164,8 @@ on-free f none e = refl
 on-free f (some x) e = absurd (true≢false e)
 
 -- where f has nothing, the rows stand as they are
-rows-none : {n k : ℕ} {f : ℕ → ℕ → Bool} {rows : List (List ℕ)} → EmptyBut n k f rows → ((q : ℕ) → q < n → nothing ≡ f q) → RowsAre n f rows
-rows-none {n} {k} {f} {rows} e none-there = record { row = λ q h. go q h (ℕ-discrete q k) }
+rows-nothing : {n k : ℕ} {f : ℕ → ℕ → Bool} {rows : List (List ℕ)} → EmptyBut n k f rows → ((q : ℕ) → q < n → nothing ≡ f q) → RowsAre n f rows
+rows-nothing {n} {k} {f} {rows} e none-there = record { row = λ q h. go q h (ℕ-discrete q k) }
   where
     go : (q : ℕ) → q < n → Dec (q ≡ k) → bits rows q ≡ f q
     go q h (yes i) = ap (bits rows) i ∙ e .row (omega arith) ∙ sym (ap f i)
@@ -184,4 +184,4 @@ module _ (m : Model) (none-stands : not (hasSome (stands (m .policies))) ≡ tru
   allows-none q h = fun-ext (λ c. on-free _ (at (m .policies) q) (free q h))
 
   pub sets-none : {k : ℕ} {sel alw : List (List ℕ)} → KnownSets m k sel alw → SetsOf m sel alw
-  sets-none g = record { selected = rows-none (g .selected) selects-none; allowed = rows-none (g .allowed) allows-none }
+  sets-none g = record { selected = rows-nothing (g .selected) selects-none; allowed = rows-nothing (g .allowed) allows-none }

@@ -17,9 +17,9 @@ use Rattle.model.specs.Calls.{Answer, openWith, change, admit}
 use Rattle.model.specs.ModelStep.{modelStep}
 use Rattle.model.specs.Registry.{opened}
 use Rattle.model.proofs.Next.{Leads}
+use Rattle.model.proofs.Lists.{both}
 use Rattle.store.specs.Layout.{memoryWords}
 use Rattle.formed.specs.Registry.{image, wellFormed}
-use Rattle.formed.proofs.Tests.{both}
 use Rattle.steps.specs.MemoryStep.{memoryStep}
 use Rattle.steps.proofs.Outcomes.{open-refused, open-done}
 use Rattle.findings.specs.declared.Cursor.{Cursor}

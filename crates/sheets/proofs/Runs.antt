@@ -16,8 +16,8 @@ use Rattle.model.specs.Model.{computedBits}
 use Rattle.model.specs.Calls.{Answer, openWith, change, admit, ask, counts, listFindings, said}
 use Rattle.model.specs.ModelStep.{modelAnswer, modelStep}
 use Rattle.model.proofs.Next.{Leads, findings-lead}
+use Rattle.model.proofs.Lists.{both}
 use Rattle.formed.specs.Registry.{wellFormed}
-use Rattle.formed.proofs.Tests.{both}
 use Rattle.steps.specs.MemoryStep.{memoryStep}
 use Rattle.findings.specs.declared.Cursor.{Cursor}
 use Rattle.findings.specs.Steps.{cursorPlace, startCursor}

@@ -15,9 +15,9 @@ use Rattle.buffer.proofs.BufferLaws.{puts-none, puts-size}
 use Rattle.model.specs.declared.Finding.{Finding}
 use Rattle.model.specs.Findings.{Place, walk, moved, findingCode}
 use Rattle.model.specs.Calls.{Answer, refusal, openWith, ask, counts, listFindings, findingsAnswer, said}
+use Rattle.model.proofs.Lists.{both}
 use Rattle.store.specs.Layout.{memoryWords}
 use Rattle.formed.specs.Registry.{wellFormed}
-use Rattle.formed.proofs.Tests.{both}
 use Rattle.steps.specs.MemoryStep.{memoryStep}
 use Rattle.steps.proofs.Outcomes.{step-size, step-formed, findings-answers}
 use Rattle.findings.specs.declared.Cursor.{Cursor}

@@ -12,7 +12,7 @@ use lib.Seq.{sets, length-sets, length-take-le, getD-take}
 use borrow.Author.Tests.{ne-eqb, lt-ltb, le-ltb, le-leb, ltb-true, ltb-false, leb-true, leb-false}
 use Rattle.bitrow.specs.Bit.{bit, bitAt}
 use Rattle.bitrow.proofs.Rows.{words-are}
-use Rattle.bitrow.proofs.Sets.{at}
+use Rattle.bitrow.proofs.Sets.{point}
 use Rattle.bitrow.proofs.Words.{bit-zero}
 use Rattle.store.specs.Layout.{memoryWords, rowsStart, rowCount, rowStart, Whole, wordAt, rowAt, rowBit}
 use Rattle.store.specs.Contents.{Contents, Holds}
@@ -44,7 +44,7 @@ row-bits m r =
     ∙ below-and (k * 64 + i) 256 (rowBit m r (k * 64 + i)) (omega arith))
 
 pub row-bit : (m : List ℕ) (r y : ℕ) → y < 256 → bitAt (rowAt m r) y ≡ rowBit m r y
-row-bit m r y h = at (row-bits m r) y ∙ sym (below-and y 256 (rowBit m r y) h)
+row-bit m r y h = point (row-bits m r) y ∙ sym (below-and y 256 (rowBit m r y) h)
 
 -- ---- what a memory holds
 

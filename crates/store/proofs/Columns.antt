@@ -9,47 +9,57 @@ use native.Mathlib.Omega.{arith}
 use lib.Dec.{eqb, leb, ltb}
 use borrow.Author.Tests.{lt-ltb, le-leb, eqb-true, ltb-true, leb-true}
 use Rattle.bitrow.specs.Bit.{bitAt}
-use Rattle.bitrow.proofs.Sets.{at}
+use Rattle.bitrow.proofs.Sets.{point}
 use Rattle.bitrow.proofs.Tests.{same-test}
-use Rattle.store.specs.Layout.{rowCount, bandRow, InRows}
+use Rattle.store.specs.Layout.{rowCount, selectedBand, bandRow, bandIndex, inBand, selectedRow, allowedRow, InRows}
 use Rattle.store.specs.declared.Band.{Band}
 use Rattle.store.specs.Contents.{Contents, Holds}
-use Rattle.store.specs.Memory.{bitSet, runs, columnSet, withRow, inBand, withRows, changed, withColumn}
-use Rattle.store.proofs.Cases.{by-eqb}
+use Rattle.store.specs.Memory.{bitSet, runs, columnSet, withRow, withRows, changed, withColumn}
+use Rattle.store.proofs.Cases.{by-ltb, by-eqb}
 use Rattle.store.proofs.Stores.{row-below, firstRows}
 use Rattle.store.proofs.Carried.{SameContents, holds-as, holds-bit, holds-runs}
 
 -- ---- which rows
 
 module _ (t : Band) (r : ℕ) where
-  abbrev index : ℕ
-  index = (r - t .first) / t .step
+  pub band-index : (i : ℕ) → 0 < t .step → r ≡ bandRow t i → bandIndex t r ≡ i
+  band-index i pos e = let d : r - t .first ≡ t .step * i = omega arith in ap (λ (n : ℕ). n / t .step) d ∙ mul-div-cancel-left i pos
 
   pub band-in : (i : ℕ) → 0 < t .step → i < t .count → r ≡ bandRow t i → inBand t r ≡ true
   unfolding inBand
   band-in i pos h e = let d : r - t .first ≡ t .step * i = omega arith in
       rw (le-leb (t .first) r (omega arith), d, mul-mod-right (t .step) i, mul-div-cancel-left i pos, lt-ltb i (t .count) h)
 
-  band-is : inBand t r ≡ true → (index < t .count) × (r ≡ bandRow t index)
+  band-is : inBand t r ≡ true → (bandIndex t r < t .count) × (r ≡ bandRow t (bandIndex t r))
   unfolding inBand
   band-is e =
-      let p = and-eq-true-iff (leb (t .first) r) (eqb ((r - t .first) % t .step) 0 && ltb index (t .count)) .0 e in
-      let q = and-eq-true-iff (eqb ((r - t .first) % t .step) 0) (ltb index (t .count)) .0 (p .1) in (
-        ltb-true index (t .count) (q .1),
+      let p = and-eq-true-iff (leb (t .first) r) (eqb ((r - t .first) % t .step) 0 && ltb (bandIndex t r) (t .count)) .0 e in
+      let q = and-eq-true-iff (eqb ((r - t .first) % t .step) 0) (ltb (bandIndex t r) (t .count)) .0 (p .1) in (
+        ltb-true (bandIndex t r) (t .count) (q .1),
         omega (arith, leb-true (t .first) r (p .0), eqb-true ((r - t .first) % t .step) 0 (q .0), div-add-mod (r - t .first) (t .step)),
       )
 
-  band-out : ((i : ℕ) → i < t .count → r ≡ bandRow t i → ⊥) → inBand t r ≡ false
+  pub band-out : ((i : ℕ) → i < t .count → r ≡ bandRow t i → ⊥) → inBand t r ≡ false
   band-out f = go (inBand t r) refl
     where
       go : (u : Bool) → inBand t r ≡ u → u ≡ false
-      go true e = let p = band-is e in absurd (f index (p .0) (p .1))
+      go true e = let p = band-is e in absurd (f (bandIndex t r) (p .0) (p .1))
       go false e = refl
+
+-- what holds of the rows of each table holds of every row
+pub by-band : (Q : ℕ → Type 0) → ((a : ℕ) → a < 256 → Q a) → ((q : ℕ) → q < 128 → Q (selectedRow q)) → ((q : ℕ) → q < 128 → Q (allowedRow q))
+    → (r : ℕ) → r < rowCount → Q r
+by-band Q f g h r l =
+    by-ltb (λ _. Q r) r 256 (f r)
+    (λ b. let q = bandIndex selectedBand r in
+    by-eqb (λ _. Q r) (r % 2) 0
+    (λ e. let d : selectedRow q ≡ r = omega arith in subst Q d (g q (omega arith)))
+    (λ e. let d : allowedRow q ≡ r = omega arith in subst Q d (h q (omega arith))))
 
 -- one row more changes no other
 band-step : (t : Band) (n r : ℕ) → 0 < t .step → (r ≡ bandRow t n → ⊥) → inBand (firstRows t (suc n)) r ≡ inBand (firstRows t n) r
 band-step t n r pos other =
-    let q = index t r in
+    let q = bandIndex t r in
     same-test (inBand (firstRows t (suc n)) r) (inBand (firstRows t n) r)
     (λ e. let p = band-is (firstRows t (suc n)) r e in
     let d : q ≡ n → ⊥ = λ z. other (p .1 ∙ ap (bandRow t) z) in
@@ -62,13 +72,12 @@ module _ (c : Contents) (t : Band) (f : ℕ → (ℕ → Bool) → ℕ → Bool)
   pub rows-in : (r i : ℕ) → 0 < t .step → i < t .count → r ≡ bandRow t i → (withRows c t f) .bits r ≡ f i (c .bits r)
   unfolding withRows
   rows-in r i pos h e =
-      let d : r - t .first ≡ t .step * i = omega arith in
-      ap (λ (u : Bool). cond u (f (index t r) (c .bits r)) (c .bits r)) (band-in t r i pos h e)
-      ∙ ap (λ (j : ℕ). f j (c .bits r)) (ap (λ (n : ℕ). n / t .step) d ∙ mul-div-cancel-left i pos)
+      ap (λ (u : Bool). cond u (f (bandIndex t r) (c .bits r)) (c .bits r)) (band-in t r i pos h e)
+      ∙ ap (λ (j : ℕ). f j (c .bits r)) (band-index t r i pos e)
 
   pub rows-out : (r : ℕ) → ((i : ℕ) → i < t .count → r ≡ bandRow t i → ⊥) → (withRows c t f) .bits r ≡ c .bits r
   unfolding withRows
-  rows-out r out = ap (λ (u : Bool). cond u (f (index t r) (c .bits r)) (c .bits r)) (band-out t r out)
+  rows-out r out = ap (λ (u : Bool). cond u (f (bandIndex t r) (c .bits r)) (c .bits r)) (band-out t r out)
 
   pub rows-words : (withRows c t f) .words ≡ c .words
   unfolding withRows
@@ -76,7 +85,7 @@ module _ (c : Contents) (t : Band) (f : ℕ → (ℕ → Bool) → ℕ → Bool)
 
   pub rows-none : SameContents c (withRows c (firstRows t 0) f)
   unfolding withRows
-  rows-none = record { words = λ k l. refl; bits = λ r y hr hy. ap (λ (u : Bool). cond u (f (index t r) (c .bits r)) (c .bits r) y) (sym (band-out (firstRows t 0) r (λ i l e. not-suc-le-zero l))) }
+  rows-none = record { words = λ k l. refl; bits = λ r y hr hy. ap (λ (u : Bool). cond u (f (bandIndex t r) (c .bits r)) (c .bits r) y) (sym (band-out (firstRows t 0) r (λ i l e. not-suc-le-zero l))) }
 
 -- one row more
 rows-more : (c : Contents) (t : Band) (f : ℕ → (ℕ → Bool) → ℕ → Bool) (n : ℕ) → 0 < t .step
@@ -89,9 +98,9 @@ rows-more c t f n pos =
     record {
       words = λ k l. refl;
       bits = λ r y hr hy. by-eqb (λ u. cond u (f n (d .bits R)) (d .bits r) y ≡ e .bits r y) r R
-          (λ q. at (ap (f n) (rows-out c (firstRows t n) f R (λ i l z. omega (arith, eq-of-mul-eq-mul-left (t .step) pos n i (omega arith)))
+          (λ q. point (ap (f n) (rows-out c (firstRows t n) f R (λ i l z. omega (arith, eq-of-mul-eq-mul-left (t .step) pos n i (omega arith)))
           ∙ ap (c .bits) (sym q)) ∙ sym (rows-in c (firstRows t (suc n)) f r n pos (omega arith) q)) y)
-          (λ o. at (ap (λ (u : Bool). cond u (f (index t r) (c .bits r)) (c .bits r)) (sym (band-step t n r pos o))) y);
+          (λ o. point (ap (λ (u : Bool). cond u (f (bandIndex t r) (c .bits r)) (c .bits r)) (sym (band-step t n r pos o))) y);
     }
 
 -- or it is left, as f leaves it
@@ -105,9 +114,9 @@ rows-skip c t f n pos left =
     record {
       words = λ k l. refl;
       bits = λ r y hr hy. by-eqb (λ u. d .bits r y ≡ e .bits r y) r R
-          (λ q. at (ap (d .bits) q ∙ rows-out c (firstRows t n) f R (λ i l z. omega (arith, eq-of-mul-eq-mul-left (t .step) pos n i (omega arith)))
+          (λ q. point (ap (d .bits) q ∙ rows-out c (firstRows t n) f R (λ i l z. omega (arith, eq-of-mul-eq-mul-left (t .step) pos n i (omega arith)))
           ∙ sym left ∙ ap (λ (x : ℕ). f n (c .bits x)) (sym q) ∙ sym (rows-in c (firstRows t (suc n)) f r n pos (omega arith) q)) y)
-          (λ o. at (ap (λ (u : Bool). cond u (f (index t r) (c .bits r)) (c .bits r)) (sym (band-step t n r pos o))) y);
+          (λ o. point (ap (λ (u : Bool). cond u (f (bandIndex t r) (c .bits r)) (c .bits r)) (sym (band-step t n r pos o))) y);
     }
 
 -- ---- a loop over the rows of a band, of which the first n are made f of what they were in c

@@ -128,7 +128,7 @@ module _ (c : Contents) where
       (λ h. omega (arith, image-packed k g h, of-bits-lt 64 (wordBits c k)))
       (λ h. omega (arith, tab-beyond memoryWords (imageWord c) k 0 h))
 
-  pub image-fits : ((k : ℕ) → k < rowsStart → c .words k < 2 ^ 64) → (k : ℕ) → wordAt (imageOf c) k < 2 ^ 64
-  image-fits fit k =
+  pub image-words-fit : ((k : ℕ) → k < rowsStart → c .words k < 2 ^ 64) → (k : ℕ) → wordAt (imageOf c) k < 2 ^ 64
+  image-words-fit fit k =
       by-ltb (λ t. wordAt (imageOf c) k < 2 ^ 64) k rowsStart
       (λ h. omega (arith, image-entry k h, fit k h)) (λ h. image-rows-fit k h)

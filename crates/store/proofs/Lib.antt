@@ -1,4 +1,4 @@
--- The laws of a memory's words and bits, for the proofs here and for callers'.
+-- The laws of a memory's words and bits.
 pub mod Cases
 pub mod Stores
 pub mod Bits

@@ -81,8 +81,8 @@ pub filled-more : {A : Type 0} (l : List A) (i : ℕ) (v : A) → i < length l �
 filled-more {A} l i v h e =
     ap (λ (n : ℕ). take n (set l i v)) (add-one i) ∙ take-suc-set l i v h ∙ ap (λ (s : List A). s ++ (v ∷ [])) e ∙ replicate-append-replicate i 1 v
 
-pub filled : {A : Type 0} (l : List A) (i n : ℕ) (v : A) → length l ≡ n → i ≡ n → take i l ≡ replicate i v → l ≡ replicate n v
-filled l i n v e q h = sym (take-all i l (omega arith)) ∙ h ∙ ap (λ (k : ℕ). replicate k v) q
+pub all-filled : {A : Type 0} (l : List A) (i n : ℕ) (v : A) → length l ≡ n → i ≡ n → take i l ≡ replicate i v → l ≡ replicate n v
+all-filled l i n v e q h = sym (take-all i l (omega arith)) ∙ h ∙ ap (λ (k : ℕ). replicate k v) q
 
 -- ---- the rows of a band
 

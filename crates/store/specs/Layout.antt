@@ -2,9 +2,10 @@
 -- policy slots of eleven; then 512 rows of four words: rows 0 to 255 are the matrix, then come what policy 0 selects, what it allows,
 -- what policy 1 selects, and so on.
 use mathlib.Core.Path.{_≡_}
-use mathlib.Core.Bool.{Bool}
+use mathlib.Core.Bool.{Bool, _&&_}
 use mathlib.Core.List.{List, [], _∷_}
 use Prim.Native.Nat.{ℕ, _+_, _*_, _-_, _/_, _%_, _<_, _≤_}
+use lib.Dec.{eqb, leb, ltb}
 use lib.ListN.{length, getD}
 use Rattle.bitrow.specs.Bit.{bit}
 use Rattle.store.specs.declared.Band.{Band}
@@ -70,6 +71,13 @@ allowedBand = record { first = 257; step = 2; count = 128 }
 -- where row i of a table stands
 abbrev pub bandRow : Band → ℕ → ℕ
 bandRow t i = t .first + t .step * i
+
+-- which row of a table row r is, where it is one
+abbrev pub bandIndex : Band → ℕ → ℕ
+bandIndex t r = (r - t .first) / t .step
+
+unfoldable pub inBand : Band → ℕ → Bool
+inBand t r = leb (t .first) r && (eqb ((r - t .first) % t .step) 0 && ltb (bandIndex t r) (t .count))
 
 abbrev pub selectedRow : ℕ → ℕ
 selectedRow = bandRow selectedBand

@@ -7,7 +7,7 @@ use lib.Dec.{eqb, leb, ltb}
 use lib.ListN.{length, getD, set, take, replicate}
 use lib.Seq.{sets}
 use Rattle.bitrow.specs.Bit.{bitAt}
-use Rattle.store.specs.Layout.{rowStart, bandRow, wordAt}
+use Rattle.store.specs.Layout.{rowStart, bandRow, bandIndex, inBand, wordAt}
 use Rattle.store.specs.declared.Band.{Band}
 use Rattle.store.specs.Contents.{Contents}
 
@@ -60,15 +60,11 @@ withSlot c start n words = record {
 unfoldable pub withRow : Contents → ℕ → (ℕ → Bool) → Contents
 withRow c r set = record { words = c .words; bits = λ x. cond (eqb x r) set (c .bits x) }
 
--- r is a row of the band
-unfoldable pub inBand : Band → ℕ → Bool
-inBand t r = leb (t .first) r && (eqb ((r - t .first) % t .step) 0 && ltb ((r - t .first) / t .step) (t .count))
-
 -- row i of the band made f i of what it was, for each i below its count
 unfoldable pub withRows : Contents → Band → (ℕ → (ℕ → Bool) → ℕ → Bool) → Contents
 withRows c t f = record {
   words = c .words;
-  bits = λ r. cond (inBand t r) (f ((r - t .first) / t .step) (c .bits r)) (c .bits r);
+  bits = λ r. cond (inBand t r) (f (bandIndex t r) (c .bits r)) (c .bits r);
 }
 
 -- a row's bits with bit b made v

@@ -5,7 +5,7 @@ use mathlib.Core.List.{List}
 use Prim.Native.Nat.{ℕ, _+_, _<_, _≤_}
 use native.Mathlib.Omega.{arith}
 use Rattle.bitrow.specs.Bit.{bitAt}
-use Rattle.bitrow.proofs.Sets.{at as point}
+use Rattle.bitrow.proofs.Sets.{point}
 use Rattle.model.specs.Model.{computedBits}
 use Rattle.model.specs.Registry.{Registry, computed, rebuilt}
 use Rattle.store.specs.Layout.{rowCount, bandRow}

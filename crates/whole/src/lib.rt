@@ -39,7 +39,7 @@ pub fn rebuild(memory: &mut [u64])
     let mut allowed = [[0u64; 4]; 128];
     let mut outs = [[0u64; 4]; 256];
     let mut backs = [[0u64; 4]; 256];
-    let standing = formed::containers_standing(memory);
+    let standing = stored::containers_standing(memory);
     let gathered = matrix_rows::gather(
         memory,
         standing,
@@ -53,7 +53,7 @@ pub fn rebuild(memory: &mut [u64])
     let mut r = 0;
     while r < store::ROW_COUNT {
         let row = row_of_bits(r, gathered, &selected, &allowed, &outs, &backs);
-        store::set_row(memory, r, row);
+        access::set_row(memory, r, row);
         r += 1;
     }
 }

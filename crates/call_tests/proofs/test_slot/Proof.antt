@@ -4,7 +4,7 @@ use mathlib.Core.Bool.{true, false}
 use Prim.Native.Nat.{_+_, _*_, _<_}
 use lib.ListN.{length}
 use borrow.Author.Tests.{le-leb, lt-leb}
-use Rattle.entries.proofs.FreeSlots.{free-at, taken-at, slot-within}
+use Rattle.entries.proofs.FreeSlots.{zero-is-free, taken-at, slot-within}
 use Rattle.call_tests.proofs.TestLaws.{test-beyond, test-within}
 use borrow.Author.Needs.{needs}
 use Rattle.call_tests.proofs.test_slot.Statement.{statement}
@@ -27,7 +27,7 @@ mul-if2-2 : tie.Need-mul-if2-2
 mul-if2-2 c = let h = within c in search needs
 
 returns-2 : tie.Need-returns-2
-returns-2 c = sym (test-within _ _ _ true (lt-leb _ _ (c .before .before .if1 .left)) (free-at _ _ _ _ (c .if2 .taken)))
+returns-2 c = sym (test-within _ _ _ true (lt-leb _ _ (c .before .before .if1 .left)) (zero-is-free _ _ _ _ (c .if2 .taken)))
 
 returns-3 : tie.Need-returns-3
 returns-3 c = sym (test-within _ _ _ false (lt-leb _ _ (c .before .before .if1 .left)) (taken-at _ _ _ _ (c .if2 .left)))

@@ -2,7 +2,7 @@
 use mathlib.Core.Path.{refl}
 use native.Mathlib.Omega.{arith}
 use Rattle.formed.proofs.Reading.{formed-whole}
-use Rattle.clearing.proofs.SlotLaws.{taken}
+use Rattle.clearing.proofs.SlotLaws.{container-taken}
 use borrow.Author.Needs.{needs}
 use Rattle.clearing.proofs.take_container.Statement.{statement}
 use Rattle.clearing.proofs.take_container.Tie as tie
@@ -18,7 +18,7 @@ returns c =
     let a = c .before .before in
     let b = a .before .before .before .before .before in
     let p = b .before .before .before in
-    taken _ (p .pre .0) _ (p .pre .1) _ (a .before .before .none .ensures) refl (b .set-slot .ensures) (a .store-bits .ensures) (λ k. omega (arith, c .slice-known3 .given k))
+    container-taken _ (p .pre .0) _ (p .pre .1) _ (a .before .before .none .ensures) refl (b .set-slot .ensures) (a .store-bits .ensures) (λ k. omega (arith, c .slice-known3 .given k))
 
 pub take-container-spec : {M : Type 1} → statement M
 take-container-spec =

@@ -3,7 +3,7 @@ use borrow.Author.Needs.{needs}
 use native.Mathlib.Omega.{arith}
 use mathlib.Core.Path.{sym, _∙_}
 use borrow.Author.Tests.{not-true, not-false}
-use Rattle.bitrow.proofs.Sets.{at}
+use Rattle.bitrow.proofs.Sets.{point}
 use Rattle.container_findings.specs.Rows.{AtContainer}
 use Rattle.container_findings.proofs.ContainerWords.{at-container}
 use Rattle.container_findings.proofs.KindRows.{no-container, no-kind, of-kind}
@@ -19,7 +19,7 @@ here e =
 returns : tie.Need-returns
 returns c =
     let p = c .before .before .before .before .pre in
-    c .none .ensures ∙ no-container _ _ _ (p .3) (sym (at (p .1) _) ∙ sym (c .before .before .has .ensures) ∙ not-true _ (c .before .if1 .taken))
+    c .none .ensures ∙ no-container _ _ _ (p .3) (sym (point (p .1) _) ∙ sym (c .before .before .has .ensures) ∙ not-true _ (c .before .if1 .taken))
 
 all-reachable-requires : tie.Need-all-reachable-requires
 all-reachable-requires c κs = here (c .before)

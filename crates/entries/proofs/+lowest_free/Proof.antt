@@ -6,7 +6,7 @@ use Prim.Native.Nat.{ℕ, _+_, _*_, _-_, _<_}
 use lib.ListN.{length}
 use borrow.Fn.Kinds.{In}
 use borrow.Fn.PlainCycle.{Measures, is, falls, and}
-use Rattle.entries.proofs.FreeSlots.{first-end, first-hit, first-miss, free-at, taken-at, slot-within}
+use Rattle.entries.proofs.FreeSlots.{first-end, first-hit, first-miss, zero-is-free, taken-at, slot-within}
 use Rattle.entries.proofs.lowest_free.Reads as lowest-free
 use Rattle.entries.proofs.lowest_free.Kinds as lowest-free-kinds
 use Rattle.entries.proofs.+lowest_free.Lts-lowest_free as lts
@@ -44,7 +44,7 @@ read-if2 : (t : ℕ) → lts.Need-shared-slice-read-if2 (asked t, lowest-free.Po
 read-if2 t c = within t (c .before)
 
 returns-2 : (t : ℕ) → lts.Need-returns-2 (asked t, lowest-free.Post) (given t) lowest-free.Post
-returns-2 t c = sym (first-hit _ _ _ (c .before .before .if1 .left) (free-at _ _ _ _ (c .if2 .taken)))
+returns-2 t c = sym (first-hit _ _ _ (c .before .before .if1 .left) (zero-is-free _ _ _ _ (c .if2 .taken)))
 
 add-slot : (t : ℕ) → lts.Need-add-lowest-free (asked t, lowest-free.Post) (given t) lowest-free.Post
 add-slot t c = let f = c .before .before .before .before .fits .slots in search needs

@@ -5,7 +5,7 @@ use Rattle.model.specs.Table.{lowestFree}
 use Rattle.formed.specs.Registry.{modelIn}
 use Rattle.formed.proofs.Reading.{formed-whole}
 use Rattle.steps.proofs.Outcomes.{policy-slot-below}
-use Rattle.free_slots.proofs.AdmissionLaws.{policies-full, policy-slot-of, policy-put}
+use Rattle.free_slots.proofs.AdmissionLaws.{policy-full, policy-slot-of, policy-put}
 use borrow.Author.Needs.{needs}
 use Rattle.free_slots.proofs.admit_policy.Statement.{statement}
 use Rattle.free_slots.proofs.admit_policy.Tie as tie
@@ -14,7 +14,7 @@ free-policy-requires : tie.Need-free-policy-requires
 free-policy-requires c κs = formed-whole _ (c .before .before .pre .0)
 
 returns : tie.Need-returns
-returns c = sym (policies-full _ _ (sym (c .before .before .free-policy .ensures) ∙ c .enum-told .given .1))
+returns c = sym (policy-full _ _ (sym (c .before .before .free-policy .ensures) ∙ c .enum-told .given .1))
 
 -- the slot that was found
 slot : (c : tie.After-put-policy-arg) → let f = c .before .before in

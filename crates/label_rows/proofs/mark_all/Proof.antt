@@ -7,7 +7,7 @@ use Rattle.formed.proofs.Reading.{formed-whole}
 use Rattle.entries.proofs.FormedEntries.{formed-slots}
 use Rattle.entries.proofs.Trials.{container-within}
 use Rattle.label_rows.specs.LabelRows.{LabelRows}
-use Rattle.label_rows.proofs.RowLaws.{rows-none, rows-next}
+use Rattle.label_rows.proofs.RowLaws.{label-rows-none, rows-next}
 use Rattle.label_rows.proofs.mark_all.Statement.{statement}
 use Rattle.label_rows.proofs.mark_all.Tie as tie
 
@@ -18,7 +18,7 @@ abbrev μ-loop : tie.MeasureT-loop
 μ-loop rows₀ labels memory c₀ rows c = 256 - c
 
 loop-holds : tie.Need-loop-holds Inv-loop μ-loop
-loop-holds c = (omega arith, rows-none _ _ (c .before .pre .1))
+loop-holds c = (omega arith, label-rows-none _ _ (c .before .pre .1))
 
 mark-part-requires : tie.Need-mark-part-requires Inv-loop μ-loop
 mark-part-requires c κs =

@@ -3,7 +3,7 @@ use borrow.Author.Needs.{needs}
 use mathlib.Core.Path.{sym, ap₂, _∙_}
 use borrow.Author.Tests.{not-true, not-false}
 use Rattle.bitrow.specs.Set.{join}
-use Rattle.bitrow.proofs.Sets.{at}
+use Rattle.bitrow.proofs.Sets.{point}
 use Rattle.matrix_rows.proofs.LineLaws.{free-row, gathered-row}
 use Rattle.matrix_rows.proofs.line_from.Statement.{statement}
 use Rattle.matrix_rows.proofs.line_from.Tie as tie
@@ -19,7 +19,7 @@ returns-2 c =
     let f = sym (t .before .has .ensures) ∙ not-false _ (t .if1 .left) in
     record {
       is = λ x k. c .either .ensures ∙ ap₂ join (e .except .ensures) (c .before .both .ensures)
-          ∙ gathered-row x _ (t .before .before .before .pre) (k (sym (at (x .standing) _) ∙ f)) f (o .outward-from .ensures);
+          ∙ gathered-row x _ (t .before .before .before .pre) (k (sym (point (x .standing) _) ∙ f)) f (o .outward-from .ensures);
     }
 
 pub line-from-spec : {M : Type 1} → statement M

@@ -10,7 +10,6 @@ use Rattle.model.specs.Table.{stands}
 use Rattle.store.specs.Layout.{policyWords}
 use Rattle.formed.specs.Registry.{modelIn, wellFormed}
 use Rattle.formed.proofs.Reading.{formed-whole}
-use Rattle.policy_entries.proofs.PlacedPolicy.{row-numbered}
 use Rattle.policy_entries.proofs.SettledPolicy.{emptied-formed, emptied-standing, settled-selected, settled-image}
 use Rattle.policy_entries.proofs.settle.Statement.{statement}
 use Rattle.policy_entries.proofs.settle.Tie as tie
@@ -50,10 +49,10 @@ module _ (c : tie.After-slice-known4) where
       let p = start .pre .0 in
       let e = p .2 in (
         emptied-formed _ (p .0) _ (p .1) (e .entry) (e .valid) (e .words) _ (nobody .none .ensures) (long start)
-            (slot .set-slot .ensures) (first .set-row .ensures) (row-numbered _ _ _ _ (cleared .set-row2 .ensures) (omega arith)) (λ k. omega (arith, c .slice-known4 .given k)),
+            (slot .set-slot .ensures) (first .set-row .ensures) (cleared .set-row2 .ensures) (λ k. omega (arith, c .slice-known4 .given k)),
         p .1,
         start .pre .1 ∙ emptied-standing _ (p .0) _ (p .1) (e .entry) (e .valid) (e .words) _ (nobody .none .ensures) (long start)
-            (slot .set-slot .ensures) (first .set-row .ensures) (row-numbered _ _ _ _ (cleared .set-row2 .ensures) (omega arith)) (λ k. omega (arith, c .slice-known4 .given k)),
+            (slot .set-slot .ensures) (first .set-row .ensures) (cleared .set-row2 .ensures) (λ k. omega (arith, c .slice-known4 .given k)),
       )
 
 selected-row-requires : tie.Need-selected-row-requires
@@ -78,16 +77,17 @@ returns c =
     let p = start k .pre .0 in
     record {
       says = λ y w v. settled-image _ (p .0) _ (p .1) y v w _ (nobody k .none .ensures) (long (start k))
-          (slot k .set-slot .ensures) (first k .set-row .ensures) (row-numbered _ _ _ _ (cleared k .set-row2 .ensures) (omega arith)) (λ i. omega (arith, k .slice-known4 .given i))
-          _ _ (s .selected-row .ensures) (a .allowed-row .ensures) (r3 .set-row3 .ensures) (row-numbered _ _ _ _ (r4 .set-row4 .ensures) (omega arith)) (λ i. omega (arith, c .slice-known6 .given i));
+          (slot k .set-slot .ensures) (first k .set-row .ensures) (cleared k .set-row2 .ensures) (λ i. omega (arith, k .slice-known4 .given i))
+          _ _ (s .selected-row .ensures) (a .allowed-row .ensures) (r3 .set-row3 .ensures) (r4 .set-row4 .ensures) (λ i. omega (arith, c .slice-known6 .given i));
       selected = λ y w v. settled-selected _ (p .0) _ (p .1) y v w _ (nobody k .none .ensures) (long (start k))
-          (slot k .set-slot .ensures) (first k .set-row .ensures) (row-numbered _ _ _ _ (cleared k .set-row2 .ensures) (omega arith)) (λ i. omega (arith, k .slice-known4 .given i)) _ (s .selected-row .ensures);
+          (slot k .set-slot .ensures) (first k .set-row .ensures) (cleared k .set-row2 .ensures) (λ i. omega (arith, k .slice-known4 .given i)) _ (s .selected-row .ensures);
     }
 
 pub settle-spec : {M : Type 1} → statement M
 settle-spec =
     tie.close
     (tie.spec
+    (λ c. search needs)
     (λ c. search needs)
     (λ c. search needs)
     (λ c. search needs)

@@ -9,8 +9,8 @@ use Rattle.bitrow.proofs.Sets.{meet-nothing, under-zero}
 use Rattle.bitrow.proofs.Rows.{row-bounded}
 use Rattle.bitrow.proofs.Searches.{lowest-at, lowest-nothing}
 use Rattle.entries.proofs.Trials.{gather-take, gather-skip, gather-done}
-use Rattle.policy_findings.specs.Comparisons.{comparison}
-use Rattle.policy_findings.proofs.PolicyReading.{at-policy}
+use Rattle.policy_pairs.specs.Comparisons.{comparison}
+use Rattle.policy_pairs.proofs.PolicyReading.{at-policy}
 use Rattle.policy_findings.proofs.compare_all.Statement.{statement}
 use Rattle.policy_findings.proofs.compare_all.Tie as tie
 

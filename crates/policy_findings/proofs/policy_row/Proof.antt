@@ -6,14 +6,14 @@ use mathlib.Core.Bool.{_&&_}
 use borrow.Author.Tests.{not-true, not-false}
 use Rattle.bitrow.specs.Bit.{bitAt}
 use Rattle.bitrow.specs.Set.{hasSome}
-use Rattle.bitrow.proofs.Sets.{at}
+use Rattle.bitrow.proofs.Sets.{point}
 use Rattle.model.specs.Findings.{needless}
-use Rattle.policy_findings.specs.Comparisons.{AtPolicy, Compared}
-use Rattle.policy_findings.proofs.PolicyReading.{at-policy}
+use Rattle.policy_pairs.specs.Comparisons.{AtPolicy, Compared}
+use Rattle.policy_pairs.proofs.PolicyReading.{at-policy}
 use Rattle.container_findings.proofs.KindRows.{no-kind, of-kind}
 use Rattle.policy_findings.proofs.PolicyKinds.{no-policy}
 use Rattle.policy_findings.proofs.PolicyRows.{needless-row, compared-none, comparison-row}
-use Rattle.policy_findings.proofs.CodeTests.{one-empty, none-empty}
+use Rattle.policy_pairs.proofs.CodeTests.{one-empty, none-empty}
 use Rattle.policy_findings.proofs.policy_row.Statement.{statement}
 use Rattle.policy_findings.proofs.policy_row.Tie as tie
 
@@ -33,7 +33,7 @@ compared e =
 returns : tie.Need-returns
 returns c =
     let p = c .before .before .before .before .pre in
-    c .none .ensures ∙ no-policy _ _ _ (p .3) (sym (at (p .1) _) ∙ sym (c .before .before .has .ensures) ∙ not-true _ (c .before .if1 .taken))
+    c .none .ensures ∙ no-policy _ _ _ (p .3) (sym (point (p .1) _) ∙ sym (c .before .before .has .ensures) ∙ not-true _ (c .before .if1 .taken))
 
 returns-2 : tie.Need-returns-2
 returns-2 c =
@@ -79,8 +79,8 @@ policy-row-spec =
     (λ c κs. search needs)
     (λ c κs. search needs)
     returns
-    (λ c κs. here c)
-    (λ c κs. here (c .before))
+    (λ c κs. let h = here c in (h .whole, h .below))
+    (λ c κs. let h = here (c .before) in (h .whole, h .below))
     (λ c κs. search needs)
     returns-2
     (λ c κs. search needs)

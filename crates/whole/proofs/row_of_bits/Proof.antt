@@ -1,10 +1,12 @@
 -- One case for each of the three tables.
 use borrow.Author.Needs.{needs}
 use native.Mathlib.Omega.{arith}
-use mathlib.Core.Path.{_∙_, sym}
-use Rattle.bitrow.proofs.Sets.{at as point}
+use mathlib.Core.Path.{_≡_, _∙_, sym, ap}
+use Rattle.bitrow.proofs.Sets.{point}
 use Rattle.model.specs.Model.{computedBits}
-use Rattle.formed.proofs.StoredLaws.{stored-matrix, stored-even, stored-odd}
+use Rattle.store.specs.Layout.{selectedBand, bandIndex, selectedRow, allowedRow}
+use Rattle.formed.specs.Registry.{storedBit}
+use Rattle.formed.proofs.StoredLaws.{stored-matrix, stored-selected, stored-allowed}
 use Rattle.whole.proofs.row_of_bits.Statement.{statement}
 use Rattle.whole.proofs.row_of_bits.Tie as tie
 
@@ -14,11 +16,15 @@ returns c = record { is = λ g e. c .line-from .ensures .is g (λ h. point e _ �
 
 returns-2 : tie.Need-returns-2
 unfolding computedBits
-returns-2 c = record { is = λ g e. g .sets .selected .row _ (omega arith) ∙ sym (stored-even _ _ (c .before .before .if1 .left) (c .before .if2 .taken)) }
+returns-2 c =
+    let there : c .before .before .before .args .r ≡ selectedRow (bandIndex selectedBand (c .before .before .before .args .r)) = omega arith in
+    record { is = λ g e. g .sets .selected .row _ (omega arith) ∙ sym (ap (storedBit _) there ∙ stored-selected _ _ (omega arith)) }
 
 returns-3 : tie.Need-returns-3
 unfolding computedBits
-returns-3 c = record { is = λ g e. g .sets .allowed .row _ (omega arith) ∙ sym (stored-odd _ _ (c .before .before .if1 .left) (c .before .if2 .left)) }
+returns-3 c =
+    let there : c .before .before .before .args .r ≡ allowedRow (bandIndex selectedBand (c .before .before .before .args .r)) = omega arith in
+    record { is = λ g e. g .sets .allowed .row _ (omega arith) ∙ sym (ap (storedBit _) there ∙ stored-allowed _ _ (omega arith)) }
 
 pub row-of-bits-spec : {M : Type 1} → statement M
 row-of-bits-spec =

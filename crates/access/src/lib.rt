@@ -1,0 +1,91 @@
+// How the parts of the memory are read and written: slots, rows of bits, columns.
+ghost use mathlib.Core.Path.{_≡_};
+ghost use Prim.Native.Nat.{_+_, _%_, _<_, _≤_};
+ghost use lib.ListN.{length};
+ghost use lib.Seq.{sets};
+ghost use Rattle.store.specs.Layout.{policyWords, rowCount, Whole, InRows, rowAt};
+ghost use Rattle.store.specs.Memory.{withBit, fourWords, slotSet, rowSet, bitSet, columnSet, cleared};
+use store::Band;
+
+// Row r of the rows of bits.
+pub fn row_at(memory: &[u64], r: usize) -> [u64; 4]
+    requires { ⌜ Whole (now memory) × (r < rowCount) ⌝ }
+    ensures { λ row. ⌜ row ≡ rowAt (now (memory .entry)) r ⌝ }
+{
+    let at = store::ROWS + store::ROW_WORDS * r;
+    [memory[at], memory[at + 1], memory[at + 2], memory[at + 3]]
+}
+
+// The first n of the words stored from `start` on: a container's slot, a policy's, or the settings.
+pub fn set_slot(memory: &mut [u64], start: usize, n: usize, words: [u64; store::POLICY_WORDS])
+    requires { ⌜ (start + n ≤ length (now memory)) × (n ≤ policyWords) ⌝ }
+    ensures { λ u. ⌜ now (memory .exit) ≡ slotSet (now (memory .entry)) start n words ⌝ }
+{
+    let mut k = 0;
+    while k < n {
+        memory[start + k] = words[k];
+        k += 1;
+    }
+}
+
+// A row filled from its first word, with which the part begins.
+fn fill_row(part: &mut [u64], row: [u64; 4])
+    requires { ⌜ 4 ≤ length (now part) ⌝ }
+    ensures { λ u. ⌜ now (part .exit) ≡ sets (now (part .entry)) 0 (fourWords row) ⌝ }
+{
+    part[0] = row[0];
+    part[1] = row[1];
+    part[2] = row[2];
+    part[3] = row[3];
+}
+
+pub fn set_row(memory: &mut [u64], r: usize, row: [u64; 4])
+    requires { ⌜ Whole (now memory) × (r < rowCount) ⌝ }
+    ensures { λ u. ⌜ now (memory .exit) ≡ rowSet (now (memory .entry)) r row ⌝ }
+{
+    let at = store::ROWS + store::ROW_WORDS * r;
+    fill_row(&mut memory[at..], row);
+}
+
+// A row's word i / 64 with bit i of the row made `value`.
+fn with_bit(word: u64, i: usize, value: bool) -> u64
+    ensures { λ r. ⌜ r ≡ withBit word (i % 64) value ⌝ }
+{
+    let mask = 1u64 << (i % 64);
+    if value { word | mask } else { word & !mask }
+}
+
+// Bit b of row r made `value`.
+fn set_bit(memory: &mut [u64], r: usize, b: usize, value: bool)
+    requires { ⌜ Whole (now memory) × (r < rowCount) × (b < 256) ⌝ }
+    ensures { λ u. ⌜ now (memory .exit) ≡ bitSet (now (memory .entry)) r b value ⌝ }
+{
+    let at = store::ROWS + store::ROW_WORDS * r + b / 64;
+    memory[at] = with_bit(memory[at], b, value);
+}
+
+// Bit b of each row of a band made bit i of the values, where the row is the band's row i: the matrix's column b, or container b's bit
+// in each policy's selected or allowed set.
+pub fn set_column(memory: &mut [u64], band: Band, b: usize, values: [u64; 4])
+    requires { ⌜ Whole (now memory) × InRows band × (b < 256) ⌝ }
+    ensures { λ u. ⌜ now (memory .exit) ≡ columnSet (now (memory .entry)) band b values ⌝ }
+{
+    let mut i = 0;
+    while i < band.count {
+        let r = band.first + band.step * i;
+        let value = bitrow::bit_of(values[i / 64], i);
+        set_bit(memory, r, b, value);
+        i += 1;
+    }
+}
+
+// Every word 0.
+pub fn clear(memory: &mut [u64])
+    ensures { λ u. ⌜ now (memory .exit) ≡ cleared (now (memory .entry)) ⌝ }
+{
+    let mut i = 0;
+    while i < memory.len() {
+        memory[i] = 0;
+        i += 1;
+    }
+}

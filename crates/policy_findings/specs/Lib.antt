@@ -1,2 +1,0 @@
--- What the contracts of `policy_findings` cite.
-pub mod Comparisons

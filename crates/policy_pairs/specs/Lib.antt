@@ -1,0 +1,2 @@
+-- What the contracts of `policy_pairs` cite.
+pub mod Comparisons

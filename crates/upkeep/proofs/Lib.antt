@@ -1,0 +1,2 @@
+-- The laws of rebuild and audit.
+pub mod UpkeepLaws
