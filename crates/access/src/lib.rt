@@ -1,11 +1,10 @@
-// How the parts of the memory are read and written: slots, rows of bits, columns.
+// Slots and rows of bits, read and written.
 ghost use mathlib.Core.Path.{_≡_};
-ghost use Prim.Native.Nat.{_+_, _%_, _<_, _≤_};
+ghost use Prim.Native.Nat.{_+_, _<_, _≤_};
 ghost use lib.ListN.{length};
 ghost use lib.Seq.{sets};
-ghost use Rattle.store.specs.Layout.{policyWords, rowCount, Whole, InRows, rowAt};
-ghost use Rattle.store.specs.Memory.{withBit, fourWords, slotSet, rowSet, bitSet, columnSet, cleared};
-use store::Band;
+ghost use Rattle.store.specs.Layout.{policyWords, rowCount, Whole, rowAt};
+ghost use Rattle.store.specs.Memory.{fourWords, slotSet, rowSet, cleared};
 
 // Row r of the rows of bits.
 pub fn row_at(memory: &[u64], r: usize) -> [u64; 4]
@@ -45,38 +44,6 @@ pub fn set_row(memory: &mut [u64], r: usize, row: [u64; 4])
 {
     let at = store::ROWS + store::ROW_WORDS * r;
     fill_row(&mut memory[at..], row);
-}
-
-// A row's word i / 64 with bit i of the row made `value`.
-fn with_bit(word: u64, i: usize, value: bool) -> u64
-    ensures { λ r. ⌜ r ≡ withBit word (i % 64) value ⌝ }
-{
-    let mask = 1u64 << (i % 64);
-    if value { word | mask } else { word & !mask }
-}
-
-// Bit b of row r made `value`.
-fn set_bit(memory: &mut [u64], r: usize, b: usize, value: bool)
-    requires { ⌜ Whole (now memory) × (r < rowCount) × (b < 256) ⌝ }
-    ensures { λ u. ⌜ now (memory .exit) ≡ bitSet (now (memory .entry)) r b value ⌝ }
-{
-    let at = store::ROWS + store::ROW_WORDS * r + b / 64;
-    memory[at] = with_bit(memory[at], b, value);
-}
-
-// Bit b of each row of a band made bit i of the values, where the row is the band's row i: the matrix's column b, or container b's bit
-// in each policy's selected or allowed set.
-pub fn set_column(memory: &mut [u64], band: Band, b: usize, values: [u64; 4])
-    requires { ⌜ Whole (now memory) × InRows band × (b < 256) ⌝ }
-    ensures { λ u. ⌜ now (memory .exit) ≡ columnSet (now (memory .entry)) band b values ⌝ }
-{
-    let mut i = 0;
-    while i < band.count {
-        let r = band.first + band.step * i;
-        let value = bitrow::bit_of(values[i / 64], i);
-        set_bit(memory, r, b, value);
-        i += 1;
-    }
 }
 
 // Every word 0.

@@ -27,7 +27,7 @@ pub fn is_consistent(memory: &[u64]) -> bool
     let mut x = 0;
     while x < store::ROW_COUNT {
         let row = whole::row_of_bits(x, gathered, &selected, &allowed, &outs, &backs);
-        if !row_reads::same(access::row_at(memory, x), row) {
+        if !row_tests::same(access::row_at(memory, x), row) {
             return false;
         }
         x += 1;

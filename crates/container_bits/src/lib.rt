@@ -66,7 +66,7 @@ pub fn store_bits(
     ensures { λ u. ⌜ now (memory .exit) ≡ bitsSet (now (memory .entry)) c row column selected allowed ⌝ }
 {
     access::set_row(memory, c, row);
-    access::set_column(memory, store::MATRIX, c, column);
-    access::set_column(memory, store::SELECTED, c, selected);
-    access::set_column(memory, store::ALLOWED, c, allowed);
+    columns::set_column(memory, store::MATRIX, c, column);
+    columns::set_column(memory, store::SELECTED, c, selected);
+    columns::set_column(memory, store::ALLOWED, c, allowed);
 }

@@ -1,11 +1,11 @@
-// What every block is tested for, and the tests of the two layouts of admission blocks.
+// What every block is tested for, and what an admission block is tested for by its layout.
 ghost use mathlib.Core.Path.{_≡_};
 ghost use mathlib.Core.List.{_∷_, []};
 ghost use Prim.Native.Nat.{_≤_};
 ghost use lib.ListN.{length};
 ghost use Rattle.block.specs.Refusal.{check, firstRefusal};
-ghost use Rattle.block.specs.Reader.{rangeFaults, orderFaults, unusedFault, containerLayout, policyLayout, frame};
-ghost use Rattle.layouts.specs.Steps.{runOf, rangeOf, runsOf, unusedOf, RunWithin, BodyWithin, bodyChecks, layoutChecks};
+ghost use Rattle.block.specs.Reader.{rangeFaults, orderFaults, unusedFault, frame};
+ghost use Rattle.layouts.specs.Steps.{runOf, rangeOf, runsOf, unusedOf, RunWithin, BodyWithin, bodyChecks};
 use block::Fault;
 use block::Refusal;
 use block::Tested;
@@ -33,9 +33,9 @@ pub fn frame_test(block: &[u8]) -> Tested
 // ---- how an admission block is laid out
 
 // A label list: where its first label begins, and how many there are.
-struct Run {
-    start: usize,
-    count: usize,
+pub struct Run {
+    pub start: usize,
+    pub count: usize,
 }
 
 // Unused bytes: from one position up to before another.
@@ -45,11 +45,11 @@ pub struct Span {
 }
 
 // The labels and the unused bytes of an admission block. A run of no label and a span of no byte find no fault.
-struct Body {
-    first: Run,
-    second: Run,
-    head: Span,
-    rest: Span,
+pub struct Body {
+    pub first: Run,
+    pub second: Run,
+    pub head: Span,
+    pub rest: Span,
 }
 
 // Refusal 7.
@@ -86,7 +86,7 @@ pub fn unused_fault(block: &[u8], head: Span, rest: Span) -> Fault
 }
 
 // Refusal 6, then 7 over all labels, 8 over all labels, and 9.
-fn layout_test(block: &[u8], limits: Fault, body: Body) -> Tested
+pub fn layout_test(block: &[u8], limits: Fault, body: Body) -> Tested
     requires { ⌜ (limits ≡ Fault.Nowhere → BodyWithin (length (now block)) body) ⌝ }
     ensures { λ r. ⌜ r ≡ firstRefusal (check 6 limits ∷ bodyChecks (now (block .entry)) (runsOf body) (unusedOf body)) ⌝ }
 {
@@ -106,75 +106,4 @@ fn layout_test(block: &[u8], limits: Fault, body: Body) -> Tested
     let after_order = faults::refuse(numbers::UNUSED, unused, Tested::Passed);
     let after_range = faults::refuse(numbers::ORDER, order, after_order);
     faults::refuse(numbers::RANGE, range, after_range)
-}
-
-// ---- the two kinds of admission block
-
-pub fn container_test(block: &[u8]) -> Tested
-    requires { ⌜ length (now block) ≡ 512 ⌝ }
-    ensures { λ r. ⌜ r ≡ firstRefusal (layoutChecks (now (block .entry)) (containerLayout (now (block .entry)))) ⌝ }
-{
-    let limits = faults::unless(block[1] <= 8, 1);
-    let count = block_bytes::size(block[1]);
-    let end = 4 + 4 * count;
-    let first = Run { start: 4, count };
-    let second = Run {
-        start: end,
-        count: 0,
-    };
-    let head = Span { from: 2, to: 4 };
-    let rest = Span { from: end, to: 510 };
-    layout_test(
-        block,
-        limits,
-        Body {
-            first,
-            second,
-            head,
-            rest,
-        },
-    )
-}
-
-// The direction, then the two counts.
-fn policy_limits(block: &[u8]) -> Fault
-    requires { ⌜ length (now block) ≡ 512 ⌝ }
-    ensures { λ r. ⌜ r ≡ policyLayout (now (block .entry)) .limits ⌝ }
-{
-    let direction = faults::unless(faults::within(1, 2, block_bytes::wide(block[1])), 1);
-    let select = faults::unless(block[2] <= 4, 2);
-    let allow = faults::unless(block[3] <= 4, 3);
-    faults::or_else(direction, faults::or_else(select, allow))
-}
-
-pub fn policy_test(block: &[u8]) -> Tested
-    requires { ⌜ length (now block) ≡ 512 ⌝ }
-    ensures { λ r. ⌜ r ≡ firstRefusal (layoutChecks (now (block .entry)) (policyLayout (now (block .entry)))) ⌝ }
-{
-    let limits = policy_limits(block);
-    let select = block_bytes::size(block[2]);
-    let allow = block_bytes::size(block[3]);
-    let first = Run {
-        start: 4,
-        count: select,
-    };
-    let second = Run {
-        start: 4 + 4 * select,
-        count: allow,
-    };
-    let head = Span { from: 4, to: 4 };
-    let rest = Span {
-        from: 4 + 4 * (select + allow),
-        to: 510,
-    };
-    layout_test(
-        block,
-        limits,
-        Body {
-            first,
-            second,
-            head,
-            rest,
-        },
-    )
 }

@@ -80,7 +80,7 @@ pub fn reset(memory: &mut [u64], q: usize, direction: u64, selected: [u64; 4], s
     requires { ⌜ (q < 128) × SetsStored (now memory) q ⌝ }
     ensures { λ u. ⌜ ResetsFor (now (memory .entry)) direction (bitAt selected) (now (memory .exit)) ⌝ }
 {
-    if row_reads::is_empty(selected) {
+    if row_tests::is_empty(selected) {
         return;
     }
     if direction == 2 {

@@ -1,41 +1,23 @@
--- Lines of the matrix gathered policy by policy.
+-- Rows of the matrix from lines gathered policy by policy.
 use mathlib.Core.Path.{_≡_}
-use mathlib.Core.Bool.{Bool, true, _&&_, cond}
+use mathlib.Core.Bool.{Bool, true, cond}
 use mathlib.Core.List.{List}
-use Prim.Native.Nat.{ℕ, _-_, _<_}
-use lib.Dec.{leb}
+use Prim.Native.Nat.{ℕ}
 use lib.ListN.{length}
 use Rattle.bitrow.specs.Bit.{bitAt}
-use Rattle.bitrow.specs.Set.{meet, join}
+use Rattle.bitrow.specs.Set.{meet}
 use Rattle.block.specs.Entry.{ingress, egress}
 use Rattle.model.specs.Table.{stands}
-use Rattle.model.specs.Model.{containerSlots, policySlots, Model, matrixBit}
+use Rattle.model.specs.Model.{policySlots, Model, matrixBit}
 use Rattle.sets.specs.Sets.{bits, SetsOf}
-use Rattle.matrix_rows.specs.declared.Gathered.{Gathered}
-use Rattle.rules.specs.Lets.{having, union}
+use Rattle.rules.specs.Lets.{union}
 use Rattle.reach.specs.Sides.{directionSet}
-
--- s, with u joined if the test passes
-unfoldable pub joinIf : Bool → (ℕ → Bool) → (ℕ → Bool) → ℕ → Bool
-joinIf t s u = cond t (join s u) s
+use Rattle.joins.specs.Joins.{LinesAre}
+use Rattle.matrix_rows.specs.declared.Gathered.{Gathered}
 
 -- s, what it has of u if the test passes
 unfoldable pub meetIf : Bool → (ℕ → Bool) → (ℕ → Bool) → ℕ → Bool
 meetIf t s u = cond t (meet s u) s
-
--- s moved up by n
-unfoldable pub raised : ℕ → (ℕ → Bool) → ℕ → Bool
-raised n s a = leb n a && s (a - n)
-
--- u is joined to the row of each container that w has
-pub record Joined (w u : ℕ → Bool) (before after : List (List ℕ)) : Type 0 where
-  pub size : length after ≡ length before
-  pub row : (a : ℕ) → a < containerSlots → bits after a ≡ joinIf (w a) (bits before a) u
-
--- for each a of some, row a has what is in the sets in u of those of t below n whose set in s has a
-pub record LinesAre (n : ℕ) (some t : ℕ → Bool) (s u : ℕ → ℕ → Bool) (lines : List (List ℕ)) : Type 0 where
-  pub size : length lines ≡ containerSlots
-  pub row : (a : ℕ) → a < containerSlots → some a ≡ true → bits lines a ≡ union (having t s a) u n
 
 -- what the rows of some containers are read from is by the entries of m: each policy's two sets, what the policies of each direction
 -- select, and the lines of each direction

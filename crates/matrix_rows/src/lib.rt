@@ -1,66 +1,13 @@
-// Rows of the matrix gathered policy by policy: for each container that a policy selects, what it allows is joined to that container's
-// row, and for each that it allows, what it selects.
+// Rows of the matrix, many at once: from lines that were gathered policy by policy.
 ghost use mathlib.Core.Path.{_≡_};
 ghost use mathlib.Core.Bool.{true};
-ghost use Prim.Native.Nat.{_≤_, _<_};
-ghost use lib.ListN.{length};
-ghost use Rattle.bitrow.specs.Bit.{bit, bitAt};
+ghost use Prim.Native.Nat.{_<_};
+ghost use Rattle.bitrow.specs.Bit.{bitAt};
 ghost use Rattle.model.specs.Table.{stands};
 ghost use Rattle.model.specs.Model.{containerSlots};
 ghost use Rattle.formed.specs.Registry.{modelIn, wellFormed};
 ghost use Rattle.sets.specs.Sets.{bits, Empty, KnownSets};
-ghost use Rattle.matrix_rows.specs.Lines.{raised, meetIf, Joined, LinesAre, Gathers, LineFrom};
-
-// A set joined to the row of each of some containers, of which `word` has the 64 from `first` on.
-fn join_word(lines: &mut [[u64; 4]; 256], word: u64, first: usize, whom: [u64; 4])
-    requires { ⌜ (length (now lines) ≡ containerSlots) × (first ≤ 192) ⌝ }
-    ensures { λ u. ⌜ Joined (raised first (bit word)) (bitAt whom) (now (lines .entry)) (now (lines .exit)) ⌝ }
-{
-    let mut rest = word;
-    while rest > 0 {
-        let k = u64::trailing_zeros(rest) as usize;
-        rest = bitrow::without_lowest(rest);
-        let a = first + k;
-        let row = lines[a];
-        let next = bitrow::either(row, whom);
-        lines[a] = next;
-    }
-}
-
-// The same by a row of four words.
-fn join_rows(lines: &mut [[u64; 4]; 256], who: [u64; 4], whom: [u64; 4])
-    requires { ⌜ length (now lines) ≡ containerSlots ⌝ }
-    ensures { λ u. ⌜ Joined (bitAt who) (bitAt whom) (now (lines .entry)) (now (lines .exit)) ⌝ }
-{
-    join_word(lines, who[0], 0, whom);
-    join_word(lines, who[1], 64, whom);
-    join_word(lines, who[2], 128, whom);
-    join_word(lines, who[3], 192, whom);
-}
-
-// For each of some containers, the union of the rows of those of the policies whose row of `tests` has it. The lines are empty before.
-fn join_all(
-    lines: &mut [[u64; 4]; 256],
-    policies: [u64; 4],
-    tests: &[[u64; 4]; 128],
-    rows: &[[u64; 4]; 128],
-    some: [u64; 4],
-)
-    requires { ⌜ Empty containerSlots (now lines) ⌝ }
-    ensures { λ u. ⌜ LinesAre 128 (bitAt some) (bitAt policies) (bits (now (tests .entry))) (bits (now (rows .entry))) (now (lines .exit)) ⌝ }
-{
-    let mut p = 0;
-    while p < 128 {
-        let q = p;
-        p += 1;
-        if bitrow::bit_of(policies[q / 64], q) {
-            let test = tests[q];
-            let row = rows[q];
-            let those = bitrow::both(test, some);
-            join_rows(lines, those, row);
-        }
-    }
-}
+ghost use Rattle.matrix_rows.specs.Lines.{meetIf, Gathers, LineFrom};
 
 // What rows of the matrix are read from, beside the lines of each direction: the standing containers, those that an egress policy
 // selects, and those that an ingress policy selects.
@@ -91,8 +38,8 @@ pub fn gather(
     let sides = reach::sides::sides_of(memory, standing, selected, 2);
     let out = sides.out;
     let back = sides.back;
-    join_all(outs, out, selected, allowed, some);
-    join_all(backs, back, allowed, selected, some);
+    joins::join_all(outs, out, selected, allowed, some);
+    joins::join_all(backs, back, allowed, selected, some);
     let bound = rules::union_of(out, selected);
     let chosen = sides.chosen;
     Gathered {

@@ -13,9 +13,9 @@ fn row_ok(memory: &[u64], r: usize, owner: u64, standing: [u64; 4]) -> bool
 {
     let row = access::row_at(memory, r);
     if owner == 0 {
-        return row_reads::is_empty(row);
+        return row_tests::is_empty(row);
     }
-    row_reads::part_of(row, standing)
+    row_tests::part_of(row, standing)
 }
 
 fn matrix_ok(memory: &[u64], standing: [u64; 4]) -> bool

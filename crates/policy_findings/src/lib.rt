@@ -41,10 +41,10 @@ fn compare_all(
 fn irrelevance(who: [u64; 4], whom: [u64; 4]) -> [u64; 4]
     ensures { λ r. ⌜ bitAt r ≡ needless (hasSome (bitAt who)) (hasSome (bitAt whom)) ⌝ }
 {
-    if row_reads::is_empty(who) {
+    if row_tests::is_empty(who) {
         return bitrow::with(bitrow::none(), 0);
     }
-    if row_reads::is_empty(whom) {
+    if row_tests::is_empty(whom) {
         return bitrow::with(bitrow::none(), 1);
     }
     bitrow::none()
@@ -63,7 +63,7 @@ pub fn policy_row(memory: &[u64], policies: [u64; 4], kind: usize, a: usize) -> 
     if kind == 7 {
         return irrelevance(who, whom);
     }
-    if row_reads::is_empty(who) | row_reads::is_empty(whom) {
+    if row_tests::is_empty(who) | row_tests::is_empty(whom) {
         return bitrow::none();
     }
     if kind < 7 {

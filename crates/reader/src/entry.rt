@@ -28,10 +28,10 @@ fn entry_test(settings: Settings, block: &[u8]) -> Tested
     }
     let kind = block[0];
     if kind == 67 {
-        return layouts::container_test(block);
+        return entry_layouts::container_test(block);
     }
     if kind == 80 {
-        return layouts::policy_test(block);
+        return entry_layouts::policy_test(block);
     }
     Tested::Refused(Refusal {
         number: numbers::KIND,

@@ -114,7 +114,7 @@ pub fn fill_sets(
     requires { ⌜ KnownSets (modelIn (now memory)) known (now selected) (now allowed) ⌝ }
     ensures { λ u. ⌜ SetsOf (modelIn (now (memory .entry))) (now (selected .exit)) (now (allowed .exit)) ⌝ }
 {
-    if row_reads::is_empty(stored::policies_standing(memory)) {
+    if row_tests::is_empty(stored::policies_standing(memory)) {
         return;
     }
     fill_by_labels(memory, standing, known, selected, allowed);

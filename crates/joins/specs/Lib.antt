@@ -1,0 +1,2 @@
+-- What the contracts of `joins` cite.
+pub mod Joins
