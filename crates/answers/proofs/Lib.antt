@@ -1,2 +1,3 @@
 -- Laws of the answers.
 pub mod AnswerLaws
+pub mod AdmissionLaws

@@ -1,11 +1,11 @@
-// The bytes of a block: numbers of two bytes, the checksum, and whether some are zero.
+// The bytes of a block: numbers of two bytes and their ranges, the checksum, and whether some are zero.
 ghost use mathlib.Core.Path.{_≡_};
 ghost use Prim.Native.Nat.{_+_, _≤_, _<_};
 ghost use lib.Dec.{eqb};
 ghost use lib.ListN.{length};
 ghost use Rattle.block.specs.Bytes.{numberAt, checksum};
 ghost use Rattle.block.specs.Fault.{clear};
-ghost use Rattle.block.specs.Reader.{zeroFault};
+ghost use Rattle.block.specs.Reader.{within, zeroFault};
 
 pub fn wide(x: u8) -> u64
     ensures { λ r. ⌜ (r ≡ x) × (r ≤ 255) ⌝ }
@@ -54,4 +54,11 @@ pub fn joined(block: &[u8], from: usize, to: usize) -> u8
         at += 1;
     }
     bits
+}
+
+// low <= x <= high
+pub fn within(low: u64, high: u64, x: u64) -> bool
+    ensures { λ r. ⌜ r ≡ within low high x ⌝ }
+{
+    (low <= x) & (x <= high)
 }

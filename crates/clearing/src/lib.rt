@@ -17,7 +17,7 @@ pub fn take_container(memory: &mut [u64], slot: ContainerSlot)
     let c = slot.0;
     let at = store::CONTAINERS + store::CONTAINER_WORDS * c;
     access::set_slot(memory, at, store::CONTAINER_WORDS, [0; store::POLICY_WORDS]);
-    let clear = bitrow::none();
+    let clear = row_sets::none();
     container_bits::store_bits(memory, c, clear, clear, clear, clear);
 }
 

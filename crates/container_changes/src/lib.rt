@@ -19,8 +19,8 @@ fn refresh(memory: &mut [u64], c: usize)
     let standing = stored::containers_standing(memory);
     sets::fill_sets(memory, standing, 128, &mut selected, &mut allowed);
     let lines = reach::sides::lines_of(memory, standing, &selected, &allowed, c);
-    let selecting = container_bits::holding(&selected, c);
-    let allowing = container_bits::holding(&allowed, c);
+    let selecting = holders::holding(&selected, c);
+    let allowing = holders::holding(&allowed, c);
     let row = lines.row;
     let column = lines.column;
     container_bits::store_bits(memory, c, row, column, selecting, allowing);

@@ -13,9 +13,9 @@ fn zero_if(t: bool) -> [u64; 4]
     ensures { λ r. ⌜ bitAt r ≡ zeroIf t ⌝ }
 {
     if t {
-        return bitrow::with(bitrow::none(), 0);
+        return row_sets::with(row_sets::none(), 0);
     }
-    bitrow::none()
+    row_sets::none()
 }
 
 // Whether the bit to a is as wanted in the rows of all containers of a set.
@@ -59,7 +59,7 @@ fn same_user(memory: &[u64], set: [u64; 4], word: u64) -> [u64; 4]
     ensures { λ r. ⌜ bitAt r ≡ meet (bitAt set) (withUser (now (memory .entry)) word) ⌝ }
 {
     let key = memory[0];
-    let mut chosen = bitrow::none();
+    let mut chosen = row_sets::none();
     let mut from = 0;
     loop {
         let found = row_reads::next_from(set, from);
@@ -67,10 +67,10 @@ fn same_user(memory: &[u64], set: [u64; 4], word: u64) -> [u64; 4]
             return chosen;
         };
         from = c + 1;
-        if entries::word_under(memory, store::CONTAINERS + store::CONTAINER_WORDS * c, key)
+        if entry_labels::word_under(memory, store::CONTAINERS + store::CONTAINER_WORDS * c, key)
             == word
         {
-            let next = bitrow::with(chosen, c);
+            let next = row_sets::with(chosen, c);
             chosen = next;
         }
     }
@@ -82,8 +82,8 @@ fn user_cross(memory: &[u64], containers: [u64; 4], a: usize) -> [u64; 4]
     ensures { λ r. ⌜ bitAt r ≡ shownAt (now (memory .entry)) 3 a ⌝ }
 {
     let reached = access::row_at(memory, a);
-    let others = bitrow::without(bitrow::both(containers, reached), a);
-    let word = entries::word_under(
+    let others = row_sets::without(row_sets::both(containers, reached), a);
+    let word = entry_labels::word_under(
         memory,
         store::CONTAINERS + store::CONTAINER_WORDS * a,
         memory[0],
@@ -91,7 +91,7 @@ fn user_cross(memory: &[u64], containers: [u64; 4], a: usize) -> [u64; 4]
     if word == 0 {
         return others;
     }
-    bitrow::except(others, same_user(memory, others, word))
+    row_sets::except(others, same_user(memory, others, word))
 }
 
 // 4. System isolation. With no system label set there are none.
@@ -101,14 +101,14 @@ fn system_isolation(memory: &[u64], containers: [u64; 4], a: usize) -> [u64; 4]
 {
     let key = memory[1];
     if key == 0 {
-        return bitrow::none();
+        return row_sets::none();
     }
     let word = key * 65536 + memory[2];
-    if !entries::carries(memory, store::CONTAINERS + store::CONTAINER_WORDS * a, word) {
-        return bitrow::none();
+    if !entry_labels::carries(memory, store::CONTAINERS + store::CONTAINER_WORDS * a, word) {
+        return row_sets::none();
     }
     let reached = access::row_at(memory, a);
-    bitrow::except(bitrow::without(containers, a), reached)
+    row_sets::except(row_sets::without(containers, a), reached)
 }
 
 // The findings of kind 1 to 4 at a, as the row of all b; of kind 0 there are none.
@@ -116,8 +116,8 @@ pub fn container_row(memory: &[u64], containers: [u64; 4], kind: usize, a: usize
     requires { ⌜ (wellFormed (now memory) ≡ true) × (bitAt containers ≡ containersStand (now memory)) × (a < 256) × (kind < 5) ⌝ }
     ensures { λ r. ⌜ bitAt r ≡ shownAt (now (memory .entry)) kind a ⌝ }
 {
-    if !bitrow::has(containers, a) {
-        return bitrow::none();
+    if !row_sets::has(containers, a) {
+        return row_sets::none();
     }
     if kind == 1 {
         return all_reachable(memory, containers, a);
@@ -131,5 +131,5 @@ pub fn container_row(memory: &[u64], containers: [u64; 4], kind: usize, a: usize
     if kind == 4 {
         return system_isolation(memory, containers, a);
     }
-    bitrow::none()
+    row_sets::none()
 }

@@ -41,7 +41,7 @@ fn policy_limits(block: &[u8]) -> Fault
     requires { ⌜ length (now block) ≡ 512 ⌝ }
     ensures { λ r. ⌜ r ≡ policyLayout (now (block .entry)) .limits ⌝ }
 {
-    let direction = faults::unless(faults::within(1, 2, block_bytes::wide(block[1])), 1);
+    let direction = faults::unless(block_bytes::within(1, 2, block_bytes::wide(block[1])), 1);
     let select = faults::unless(block[2] <= 4, 2);
     let allow = faults::unless(block[3] <= 4, 3);
     faults::or_else(direction, faults::or_else(select, allow))

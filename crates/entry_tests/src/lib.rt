@@ -1,29 +1,22 @@
 // The test of the words before the rows: settings, and each slot of a container and of a policy.
 ghost use mathlib.Core.Path.{_≡_};
 ghost use Prim.Native.Nat.{_<_};
-ghost use Rattle.block.specs.Reader.{within};
 ghost use Rattle.block.specs.Written.{validSettings};
 ghost use Rattle.store.specs.Layout.{Whole};
 ghost use Rattle.formed.specs.Words.{settingsIn};
 ghost use Rattle.formed.specs.Tests.{containerOk, policyOk, containersOk, policiesOk};
 
-fn in_range(low: u64, high: u64, x: u64) -> bool
-    ensures { λ r. ⌜ r ≡ within low high x ⌝ }
-{
-    (low <= x) & (x <= high)
-}
-
 pub fn settings_ok(memory: &[u64]) -> bool
     requires { ⌜ Whole (now memory) ⌝ }
     ensures { λ r. ⌜ r ≡ validSettings (settingsIn (now (memory .entry))) ⌝ }
 {
-    let user = in_range(1, 64, memory[0]);
+    let user = block_bytes::within(1, 64, memory[0]);
     let key = memory[1];
     let value = memory[2];
     if key == 0 {
         return user & ((key <= 64) & (value == 0));
     }
-    let system = in_range(1, 65535, value);
+    let system = block_bytes::within(1, 65535, value);
     user & ((key <= 64) & system)
 }
 

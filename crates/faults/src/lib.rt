@@ -4,7 +4,7 @@ ghost use Prim.Native.Nat.{_+_, _*_, _≤_, _<_};
 ghost use lib.ListN.{length};
 ghost use Rattle.block.specs.Fault.{unless, orElse};
 ghost use Rattle.block.specs.Refusal.{refuse};
-ghost use Rattle.block.specs.Reader.{within, labelFault, rangeFault, riseFault, orderFault, zeroFault};
+ghost use Rattle.block.specs.Reader.{labelFault, rangeFault, riseFault, orderFault, zeroFault};
 use block::Fault;
 use block::Refusal;
 use block::Tested;
@@ -26,13 +26,6 @@ pub fn or_else(first: Fault, second: Fault) -> Fault
     }
 }
 
-// low <= x <= high
-pub fn within(low: u64, high: u64, x: u64) -> bool
-    ensures { λ r. ⌜ r ≡ within low high x ⌝ }
-{
-    (low <= x) & (x <= high)
-}
-
 // The fault of the label whose key stands at p.
 fn label_fault(block: &[u8], p: usize) -> Fault
     requires { ⌜ p + 4 ≤ length (now block) ⌝ }
@@ -41,8 +34,8 @@ fn label_fault(block: &[u8], p: usize) -> Fault
     let key = block_bytes::number_at(block, p);
     let value = block_bytes::number_at(block, p + 2);
     or_else(
-        unless(within(1, 64, key), p),
-        unless(within(1, 65535, value), p + 2),
+        unless(block_bytes::within(1, 64, key), p),
+        unless(block_bytes::within(1, 65535, value), p + 2),
     )
 }
 

@@ -81,7 +81,7 @@ impl Cursor {
                     at,
                     kind,
                     a,
-                    bitrow::both(row, bitrow::at_least(from)),
+                    row_sets::both(row, row_sets::at_least(from)),
                 );
                 a += 1;
                 from = 0;

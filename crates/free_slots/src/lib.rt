@@ -6,7 +6,7 @@ ghost use Rattle.formed.specs.Labels.{unpacked};
 ghost use Rattle.container_changes.specs.OneContainer.{SaysContainer};
 ghost use Rattle.policy_entries.specs.PolicyEntry.{policyFrom, SaysPolicy};
 ghost use Rattle.answers.specs.Answers.{admittedAnswer};
-ghost use Rattle.free_slots.specs.Admission.{containerAdmitted, policyAdmitted};
+ghost use Rattle.answers.specs.Admission.{containerAdmitted, policyAdmitted};
 use answers::Admitted;
 use block::Labels;
 use block::numbers;
@@ -18,7 +18,7 @@ pub fn admit_container(memory: &mut [u64], labels: Labels) -> Admitted
     requires { ⌜ (wellFormed (now memory) ≡ true) × SaysContainer (modelIn (now memory) .settings) labels ⌝ }
     ensures { λ r. ⌜ (now (memory .exit), admittedAnswer r) ≡ containerAdmitted (now (memory .entry)) (unpacked labels) ⌝ }
 {
-    let free = entries::free_container(memory);
+    let free = slot_search::free_container(memory);
     let FreeContainer::At(slot) = free else {
         return Admitted::Refused(numbers::TABLE_FULL);
     };
@@ -31,7 +31,7 @@ pub fn admit_policy(memory: &mut [u64], direction: u64, select: Labels, allow: L
     requires { ⌜ (wellFormed (now memory) ≡ true) × SaysPolicy (modelIn (now memory) .settings) direction select allow ⌝ }
     ensures { λ r. ⌜ (now (memory .exit), admittedAnswer r) ≡ policyAdmitted (now (memory .entry)) (policyFrom direction select allow) ⌝ }
 {
-    let free = entries::free_policy(memory);
+    let free = slot_search::free_policy(memory);
     let FreePolicy::At(slot) = free else {
         return Admitted::Refused(numbers::TABLE_FULL);
     };

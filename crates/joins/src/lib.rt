@@ -18,7 +18,7 @@ fn join_word(lines: &mut [[u64; 4]; 256], word: u64, first: usize, whom: [u64; 4
         rest = bitrow::without_lowest(rest);
         let a = first + k;
         let row = lines[a];
-        let next = bitrow::either(row, whom);
+        let next = row_sets::either(row, whom);
         lines[a] = next;
     }
 }
@@ -52,7 +52,7 @@ pub fn join_all(
         if bitrow::bit_of(policies[q / 64], q) {
             let test = tests[q];
             let row = rows[q];
-            let those = bitrow::both(test, some);
+            let those = row_sets::both(test, some);
             join_rows(lines, those, row);
         }
     }

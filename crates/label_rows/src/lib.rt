@@ -77,7 +77,7 @@ pub fn matching(
         let h = label_table::place(labels, label);
         if labels[h] == label {
             let row = rows[h];
-            let next = bitrow::both(left, row);
+            let next = row_sets::both(left, row);
             left = next;
         } else {
             all = false;

@@ -18,7 +18,10 @@ fn reset_row(memory: &mut [u64], a: usize, columns: [u64; 4], ruled: [u64; 4])
     ensures { λ u. ⌜ RowReset (now (memory .entry)) (now (memory .exit)) a (bitAt columns) (bitAt ruled) ⌝ }
 {
     let old = access::row_at(memory, a);
-    let row = bitrow::either(bitrow::except(old, columns), bitrow::both(ruled, columns));
+    let row = row_sets::either(
+        row_sets::except(old, columns),
+        row_sets::both(ruled, columns),
+    );
     access::set_row(memory, a, row);
 }
 
@@ -66,7 +69,7 @@ fn reset_rows(memory: &mut [u64], q: usize, rows: [u64; 4], columns: [u64; 4], s
     while a < 256 {
         let row = a;
         a += 1;
-        if bitrow::has(rows, row) {
+        if row_sets::has(rows, row) {
             let ruled = matrix_rows::line_from(row, gathered, &outs, &backs);
             reset_row(memory, row, columns, ruled);
         }

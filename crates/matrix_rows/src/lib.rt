@@ -54,9 +54,9 @@ fn outward_from(a: usize, bound: [u64; 4], outs: &[[u64; 4]; 256], among: [u64; 
     requires { ⌜ a < 256 ⌝ }
     ensures { λ r. ⌜ bitAt r ≡ meetIf (bitAt bound a) (bitAt among) (bits (now (outs .entry)) a) ⌝ }
 {
-    if bitrow::has(bound, a) {
+    if row_sets::has(bound, a) {
         let whom = outs[a];
-        return bitrow::both(among, whom);
+        return row_sets::both(among, whom);
     }
     among
 }
@@ -72,12 +72,12 @@ pub fn line_from(
     ensures { λ r. ⌜ LineFrom gathered (now (outs .entry)) (now (backs .entry)) a r ⌝ }
 {
     let standing = gathered.standing;
-    if !bitrow::has(standing, a) {
-        return bitrow::none();
+    if !row_sets::has(standing, a) {
+        return row_sets::none();
     }
     let bound = gathered.bound;
     let there = outward_from(a, bound, outs, standing);
     let chosen = gathered.chosen;
     let who = backs[a];
-    bitrow::either(bitrow::except(there, chosen), bitrow::both(there, who))
+    row_sets::either(row_sets::except(there, chosen), row_sets::both(there, who))
 }

@@ -66,7 +66,7 @@ pub fn settle(
 {
     let selects = store::SELECTED_ROWS + store::SET_STEP * q;
     let allows = store::ALLOWED_ROWS + store::SET_STEP * q;
-    let nobody = bitrow::none();
+    let nobody = row_sets::none();
     access::set_slot(
         memory,
         store::POLICIES + store::POLICY_WORDS * q,

@@ -22,7 +22,7 @@ fn compare_all(
     requires { ⌜ Compared (now memory) who whom a × (bitAt policies ≡ policiesStand (now memory)) ⌝ }
     ensures { λ r. ⌜ bitAt r ≡ meet (bitAt policies) (comparison kind (now (memory .entry)) a) ⌝ }
 {
-    let mut chosen = bitrow::none();
+    let mut chosen = row_sets::none();
     let mut from = 0;
     loop {
         let found = row_reads::next_from(policies, from);
@@ -31,7 +31,7 @@ fn compare_all(
         };
         from = b + 1;
         if policy_pairs::compare(memory, kind, a, b, who, whom) {
-            let next = bitrow::with(chosen, b);
+            let next = row_sets::with(chosen, b);
             chosen = next;
         }
     }
@@ -42,12 +42,12 @@ fn irrelevance(who: [u64; 4], whom: [u64; 4]) -> [u64; 4]
     ensures { λ r. ⌜ bitAt r ≡ needless (hasSome (bitAt who)) (hasSome (bitAt whom)) ⌝ }
 {
     if row_tests::is_empty(who) {
-        return bitrow::with(bitrow::none(), 0);
+        return row_sets::with(row_sets::none(), 0);
     }
     if row_tests::is_empty(whom) {
-        return bitrow::with(bitrow::none(), 1);
+        return row_sets::with(row_sets::none(), 1);
     }
-    bitrow::none()
+    row_sets::none()
 }
 
 // The findings of kind 5 to 7 at a, as the row of all b; above 7 there are none.
@@ -55,8 +55,8 @@ pub fn policy_row(memory: &[u64], policies: [u64; 4], kind: usize, a: usize) -> 
     requires { ⌜ (wellFormed (now memory) ≡ true) × (bitAt policies ≡ policiesStand (now memory)) × (a < 256) × (5 ≤ kind) ⌝ }
     ensures { λ r. ⌜ bitAt r ≡ shownAt (now (memory .entry)) kind a ⌝ }
 {
-    if !bitrow::has(policies, a) {
-        return bitrow::none();
+    if !row_sets::has(policies, a) {
+        return row_sets::none();
     }
     let who = stored::stored_selected(memory, a);
     let whom = stored::stored_allowed(memory, a);
@@ -64,10 +64,10 @@ pub fn policy_row(memory: &[u64], policies: [u64; 4], kind: usize, a: usize) -> 
         return irrelevance(who, whom);
     }
     if row_tests::is_empty(who) | row_tests::is_empty(whom) {
-        return bitrow::none();
+        return row_sets::none();
     }
     if kind < 7 {
         return compare_all(memory, policies, kind, a, who, whom);
     }
-    bitrow::none()
+    row_sets::none()
 }

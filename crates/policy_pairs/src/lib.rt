@@ -34,9 +34,9 @@ fn conflict_at(memory: &[u64], a: usize, b: usize, who: [u64; 4], whom: [u64; 4]
     let one_way = one_direction(memory, a, b);
     let other_who = stored::stored_selected(memory, b);
     let other_whom = stored::stored_allowed(memory, b);
-    let apart = row_tests::is_empty(bitrow::both(who, other_who));
+    let apart = row_tests::is_empty(row_sets::both(who, other_who));
     let idle = row_tests::is_empty(other_whom);
-    let disjoint = row_tests::is_empty(bitrow::both(whom, other_whom));
+    let disjoint = row_tests::is_empty(row_sets::both(whom, other_whom));
     (a < b) & (one_way & (!apart & (!idle & disjoint)))
 }
 

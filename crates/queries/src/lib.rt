@@ -70,7 +70,7 @@ pub fn carries_user(memory: &[u64], slot: ContainerSlot, value: u64) -> Reply
         return Reply::Says(false);
     }
     let at = store::CONTAINERS + store::CONTAINER_WORDS * c;
-    let says = entries::carries(memory, at, memory[0] * 65536 + value);
+    let says = entry_labels::carries(memory, at, memory[0] * 65536 + value);
     Reply::Says(says)
 }
 

@@ -20,7 +20,7 @@ fn value_fits(key: u64, value: u64) -> bool
     if key == 0 {
         return value == 0;
     }
-    faults::within(1, 65535, value)
+    block_bytes::within(1, 65535, value)
 }
 
 // The system key, then the system value.
@@ -38,7 +38,7 @@ fn settings_fault(block: &[u8]) -> Fault
     requires { ⌜ length (now block) ≡ 512 ⌝ }
     ensures { λ r. ⌜ r ≡ settingsFault (now (block .entry)) ⌝ }
 {
-    let user = faults::unless(faults::within(1, 64, block_bytes::wide(block[1])), 1);
+    let user = faults::unless(block_bytes::within(1, 64, block_bytes::wide(block[1])), 1);
     let key = block_bytes::wide(block[2]);
     let value = block_bytes::number_at(block, 4);
     faults::or_else(user, system_fault(key, value))

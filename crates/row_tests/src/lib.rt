@@ -14,7 +14,7 @@ pub fn is_empty(row: [u64; 4]) -> bool
 pub fn part_of(a: [u64; 4], b: [u64; 4]) -> bool
     ensures { λ r. ⌜ r ≡ part (bitAt a) (bitAt b) ⌝ }
 {
-    is_empty(bitrow::except(a, b))
+    is_empty(row_sets::except(a, b))
 }
 
 pub fn same(a: [u64; 4], b: [u64; 4]) -> bool

@@ -18,7 +18,7 @@ fn pick(policies: [u64; 4], tests: &[[u64; 4]; 128], rows: &[[u64; 4]; 128], a: 
     ensures { λ r. ⌜ Picks 128 (bitAt policies) (bits (now (tests .entry))) (bits (now (rows .entry))) a (r .any) (bitAt (r .joined)) ⌝ }
 {
     let mut any = false;
-    let mut joined = bitrow::none();
+    let mut joined = row_sets::none();
     let word = a / 64;
     let mut p = 0;
     while p < 128 {
@@ -27,7 +27,7 @@ fn pick(policies: [u64; 4], tests: &[[u64; 4]; 128], rows: &[[u64; 4]; 128], a: 
         if bitrow::bit_of(policies[q / 64], q) & bitrow::bit_of(tests[q][word], a) {
             any = true;
             let row = rows[q];
-            let next = bitrow::either(joined, row);
+            let next = row_sets::either(joined, row);
             joined = next;
         }
     }
@@ -41,14 +41,14 @@ fn pick(policies: [u64; 4], tests: &[[u64; 4]; 128], rows: &[[u64; 4]; 128], a: 
 pub fn union_of(policies: [u64; 4], rows: &[[u64; 4]; 128]) -> [u64; 4]
     ensures { λ r. ⌜ bitAt r ≡ union (bitAt policies) (bits (now (rows .entry))) 128 ⌝ }
 {
-    let mut joined = bitrow::none();
+    let mut joined = row_sets::none();
     let mut p = 0;
     while p < 128 {
         let q = p;
         p += 1;
         if bitrow::bit_of(policies[q / 64], q) {
             let row = rows[q];
-            let next = bitrow::either(joined, row);
+            let next = row_sets::either(joined, row);
             joined = next;
         }
     }
@@ -69,7 +69,7 @@ pub fn outward(
     let those = pick(policies, selected, allowed, a);
     if those.any {
         let whom = those.joined;
-        return bitrow::both(among, whom);
+        return row_sets::both(among, whom);
     }
     among
 }
@@ -90,7 +90,7 @@ pub fn inward(
 {
     let those = pick(policies, allowed, selected, a);
     let who = those.joined;
-    bitrow::either(bitrow::except(among, chosen), bitrow::both(among, who))
+    row_sets::either(row_sets::except(among, chosen), row_sets::both(among, who))
 }
 
 // What a line of the matrix is worked out from, beside each policy's two sets: the standing containers, the policies of the line's
@@ -115,8 +115,8 @@ pub fn row_by_rules(
     ensures { λ r. ⌜ bitAt r ≡ line 128 (bitAt (sides .standing)) (bitAt (sides .out)) (bitAt (sides .back)) (bits (now (selected .entry))) (bits (now (allowed .entry))) a ⌝ }
 {
     let standing = sides.standing;
-    if !bitrow::has(standing, a) {
-        return bitrow::none();
+    if !row_sets::has(standing, a) {
+        return row_sets::none();
     }
     let out = sides.out;
     let there = outward(a, out, selected, allowed, standing);

@@ -16,7 +16,7 @@ pub fn part_row(memory: &[u64], q: usize, offset: usize, candidates: [u64; 4]) -
 {
     let at = store::POLICIES + store::POLICY_WORDS * q;
     if memory[at] == 0 {
-        return bitrow::none();
+        return row_sets::none();
     }
     trials::trial(memory, at + offset, candidates)
 }
@@ -35,7 +35,7 @@ fn part_by_labels(
 {
     let at = store::POLICIES + store::POLICY_WORDS * q;
     if memory[at] == 0 {
-        return bitrow::none();
+        return row_sets::none();
     }
     label_rows::matching(memory, table, rows, at + offset, candidates)
 }

@@ -7,7 +7,7 @@ use Rattle.formed.proofs.Reading.{formed-whole}
 use Rattle.block.specs.declared.Tested.the-variants.{Passed}
 use Rattle.call_tests.proofs.TestLaws.{memory-refused, memory-passed}
 use Rattle.admission.proofs.BlockLaws.{settings-here, reads-here, ReadContainer, ReadPolicy, admit-refused-by, container-read, policy-read}
-use Rattle.free_slots.proofs.AdmissionLaws.{admit-container, admit-policy}
+use Rattle.answers.proofs.AdmissionLaws.{admit-container, admit-policy}
 use borrow.Author.Needs.{needs}
 use Rattle.admission.proofs.admit.Statement.{statement}
 use Rattle.admission.proofs.admit.Tie as tie

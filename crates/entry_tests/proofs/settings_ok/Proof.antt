@@ -10,13 +10,13 @@ returns : tie.Need-returns
 unfolding settingsIn
 returns c =
     let user = c .before .before .before in
-    no-system (settingsIn (now (user .before .before .before .args .memory))) (user .in-range .ensures) (c .if1 .taken)
+    no-system (settingsIn (now (user .before .before .before .args .memory))) (user .within .ensures) (c .if1 .taken)
 
 returns-2 : tie.Need-returns-2
 unfolding settingsIn
 returns-2 c =
     let user = c .before .before .before .before in
-    system (settingsIn (now (user .before .before .before .args .memory))) (user .in-range .ensures) (c .in-range2 .ensures) (c .before .if1 .left)
+    system (settingsIn (now (user .before .before .before .args .memory))) (user .within .ensures) (c .within2 .ensures) (c .before .if1 .left)
 
 pub settings-ok-spec : {M : Type 1} → statement M
 settings-ok-spec =

@@ -6,7 +6,7 @@ use Rattle.model.specs.Table.{lowestFree}
 use Rattle.formed.specs.Registry.{modelIn}
 use Rattle.formed.proofs.Reading.{formed-whole}
 use Rattle.steps.proofs.Outcomes.{container-slot-below}
-use Rattle.free_slots.proofs.AdmissionLaws.{container-full, container-slot-of, container-put}
+use Rattle.answers.proofs.AdmissionLaws.{container-full, container-slot-of, container-put}
 use borrow.Author.Needs.{needs}
 use Rattle.free_slots.proofs.admit_container.Statement.{statement}
 use Rattle.free_slots.proofs.admit_container.Tie as tie

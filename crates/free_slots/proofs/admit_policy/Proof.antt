@@ -5,7 +5,7 @@ use Rattle.model.specs.Table.{lowestFree}
 use Rattle.formed.specs.Registry.{modelIn}
 use Rattle.formed.proofs.Reading.{formed-whole}
 use Rattle.steps.proofs.Outcomes.{policy-slot-below}
-use Rattle.free_slots.proofs.AdmissionLaws.{policy-full, policy-slot-of, policy-put}
+use Rattle.answers.proofs.AdmissionLaws.{policy-full, policy-slot-of, policy-put}
 use borrow.Author.Needs.{needs}
 use Rattle.free_slots.proofs.admit_policy.Statement.{statement}
 use Rattle.free_slots.proofs.admit_policy.Tie as tie

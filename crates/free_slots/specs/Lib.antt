@@ -1,2 +1,0 @@
--- What the contracts of `free_slots` cite.
-pub mod Admission
