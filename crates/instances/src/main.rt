@@ -1,12 +1,6 @@
-// The instances of document 01 that the proved table does not hold, and each refusal at least once. Writes a line for each:
-// the case's number, the refusal's or 0, and what else the call answered.
+// The instances of document 01 that the proved table does not hold, and each refusal at least once, run through the calls for C.
+// Writes a line for each: the case's number, the refusal's or 0, and what else the call answered.
 use libc::STDOUT_FILENO;
-use model::ContainerSlot;
-use model::PolicySlot;
-use registry::Admitted;
-use registry::Counted;
-use registry::Outcome;
-use registry::Reply;
 use samples::Shape;
 
 fn line(case: u64, refusal: u64, value: u64) {
@@ -18,83 +12,36 @@ fn line(case: u64, refusal: u64, value: u64) {
     io::write_all(STDOUT_FILENO, b"\n");
 }
 
-fn show_outcome(case: u64, answer: Outcome) {
-    match answer {
-        Outcome::Refused(why) => line(case, why as u64, 0),
-        Outcome::Done => line(case, 0, 0),
-    }
-}
-
-fn show_reply(case: u64, answer: Reply) {
-    match answer {
-        Reply::Refused(why) => line(case, why as u64, 0),
-        Reply::Says(says) => line(case, 0, says as u64),
-    }
-}
-
-fn show_admitted(case: u64, answer: Admitted) {
-    match answer {
-        Admitted::Refused(why) => line(case, why as u64, 0),
-        Admitted::Container(slot) => line(case, 0, slot.0 as u64),
-        Admitted::Policy(slot) => line(case, 0, slot.0 as u64),
-    }
-}
-
-fn open(memory: &mut [u64], case: u64, made: Shape) {
-    let block = samples::sealed(made);
-    show_outcome(case, registry::open(memory, &block));
-}
-
-fn admit(memory: &mut [u64], case: u64, made: Shape) {
-    let block = samples::sealed(made);
-    show_admitted(case, registry::admit(memory, &block));
-}
-
-fn remove_container(memory: &mut [u64], case: u64, slot: usize) {
-    show_outcome(
-        case,
-        registry::remove_container(memory, ContainerSlot(slot)),
-    );
-}
-
-fn remove_policy(memory: &mut [u64], case: u64, slot: usize) {
-    show_outcome(case, registry::remove_policy(memory, PolicySlot(slot)));
-}
-
-fn reaches(memory: &[u64], case: u64, a: usize, b: usize) {
-    show_reply(
-        case,
-        registry::reaches(memory, ContainerSlot(a), ContainerSlot(b)),
-    );
-}
-
-fn carries_user(memory: &[u64], case: u64, slot: usize, value: u64) {
-    show_reply(
-        case,
-        registry::carries_user(memory, ContainerSlot(slot), value),
-    );
+// An answer: the refusal's number is its top byte, and the value is below.
+fn show(case: u64, answer: u64) {
+    line(case, answer / 72057594037927936, answer % 72057594037927936);
 }
 
 // The counts, a line for each.
-fn count(memory: &[u64], case: u64) {
-    match registry::counts(memory) {
-        Counted::Refused(why) => line(case, why as u64, 0),
-        Counted::Counts(containers, policies, pairs) => {
-            line(case, 0, containers);
-            line(case, 0, policies);
-            line(case, 0, pairs);
-        }
-    }
+fn show_counts(case: u64, answer: u64) {
+    line(case, 0, answer % 65536);
+    line(case, 0, answer / 65536 % 65536);
+    line(case, 0, answer / 4294967296);
 }
 
-fn open_other_size(case: u64) {
+fn open(memory: &mut [u64], made: Shape) -> u64 {
+    let block = samples::sealed(made);
+    registry_c::bihokura_open(memory, &block)
+}
+
+fn admit(memory: &mut [u64], made: Shape) -> u64 {
+    let block = samples::sealed(made);
+    registry_c::bihokura_admit(memory, &block)
+}
+
+fn open_other_size() -> u64 {
     let mut memory = [0u64; 5762];
-    open(&mut memory, case, samples::settings(1, 2));
+    open(&mut memory, samples::settings(1, 2))
 }
 
-fn open_short(memory: &mut [u64], case: u64) {
+fn open_short(memory: &mut [u64]) -> u64 {
     let block = samples::sealed(samples::settings(1, 2));
-    show_outcome(case, registry::open(memory, &block[1..]));
+    registry_c::bihokura_open(memory, &block[1..])
 }
 
 // Settings: each refusal that their blocks meet, and what stands at the limits.
@@ -116,12 +63,12 @@ fn settings_case(case: u64) -> Shape {
     }
 }
 
-fn run_opening(memory: &mut [u64], case: u64) {
+fn opened(memory: &mut [u64], case: u64) -> u64 {
     match case {
-        1 => open_other_size(case),
-        2 => admit(memory, case, samples::container(1, 1)),
-        3 => open_short(memory, case),
-        _ => open(memory, case, settings_case(case)),
+        1 => open_other_size(),
+        2 => admit(memory, samples::container(1, 1)),
+        3 => open_short(memory),
+        _ => open(memory, settings_case(case)),
     }
 }
 
@@ -161,23 +108,22 @@ fn policy_case(case: u64) -> Shape {
 }
 
 // Slots asked about: free ones, and ones beyond their table.
-fn run_asking(memory: &[u64], case: u64) {
+fn asked(memory: &[u64], case: u64) -> u64 {
     match case {
-        40 => reaches(memory, case, 0, 255),
-        41 => reaches(memory, case, 255, 256),
-        42 => reaches(memory, case, 256, 255),
-        43 => reaches(memory, case, 0, 1),
-        44 => reaches(memory, case, 1, 0),
-        45 => carries_user(memory, case, 255, 1),
-        46 => carries_user(memory, case, 256, 1),
-        47 => carries_user(memory, case, 0, 1),
-        48 => carries_user(memory, case, 0, 2),
-        49 => carries_user(memory, case, 0, 65536),
-        _ => count(memory, case),
+        40 => registry_c::bihokura_reaches(memory, 0, 255),
+        41 => registry_c::bihokura_reaches(memory, 255, 256),
+        42 => registry_c::bihokura_reaches(memory, 256, 255),
+        43 => registry_c::bihokura_reaches(memory, 0, 1),
+        44 => registry_c::bihokura_reaches(memory, 1, 0),
+        45 => registry_c::bihokura_carries_user(memory, 255, 1),
+        46 => registry_c::bihokura_carries_user(memory, 256, 1),
+        47 => registry_c::bihokura_carries_user(memory, 0, 1),
+        48 => registry_c::bihokura_carries_user(memory, 0, 2),
+        _ => registry_c::bihokura_carries_user(memory, 0, 65536),
     }
 }
 
-fn freed_container(case: u64) -> usize {
+fn freed_container(case: u64) -> u64 {
     match case {
         51 => 255,
         52 => 256,
@@ -185,7 +131,7 @@ fn freed_container(case: u64) -> usize {
     }
 }
 
-fn freed_policy(case: u64) -> usize {
+fn freed_policy(case: u64) -> u64 {
     match case {
         53 => 127,
         54 => 128,
@@ -194,14 +140,13 @@ fn freed_policy(case: u64) -> usize {
 }
 
 // Slots freed: free ones, ones beyond their table, and a freed one used again.
-fn run_freeing(memory: &mut [u64], case: u64) {
+fn freed(memory: &mut [u64], case: u64) -> u64 {
     match case {
-        51 | 52 | 55 | 56 => remove_container(memory, case, freed_container(case)),
-        53 | 54 | 57 | 58 => remove_policy(memory, case, freed_policy(case)),
-        59 => admit(memory, case, samples::container(1, 1)),
-        61 => show_outcome(case, registry::rebuild(memory)),
-        62 => show_reply(case, registry::audit(memory)),
-        _ => count(memory, case),
+        51 | 52 | 55 | 56 => registry_c::bihokura_remove_container(memory, freed_container(case)),
+        53 | 54 | 57 | 58 => registry_c::bihokura_remove_policy(memory, freed_policy(case)),
+        59 => admit(memory, samples::container(1, 1)),
+        61 => registry_c::bihokura_rebuild(memory),
+        _ => registry_c::bihokura_audit(memory),
     }
 }
 
@@ -210,7 +155,7 @@ fn repeat(memory: &mut [u64], made: Shape, times: u64) {
     let block = samples::sealed(made);
     let mut left = times;
     while left > 0 {
-        registry::admit(memory, &block);
+        registry_c::bihokura_admit(memory, &block);
         left -= 1;
     }
 }
@@ -224,32 +169,38 @@ fn filling_case(case: u64) -> Shape {
 }
 
 // Full tables: the 257th container and the 129th policy, and freed slots used again.
-fn run_filling(memory: &mut [u64], case: u64) {
+fn filled(memory: &mut [u64], case: u64) -> u64 {
     match case {
-        64 => open(memory, case, samples::settings(1, 2)),
-        65 => repeat(memory, samples::container(2, 1), 255),
-        68 => remove_container(memory, case, 100),
-        71 => repeat(memory, samples::policy(1, 0, 1, 2), 127),
-        74 => remove_policy(memory, case, 127),
-        75 | 78 => count(memory, case),
-        77 => show_reply(case, registry::audit(memory)),
-        _ => admit(memory, case, filling_case(case)),
+        64 => open(memory, samples::settings(1, 2)),
+        68 => registry_c::bihokura_remove_container(memory, 100),
+        74 => registry_c::bihokura_remove_policy(memory, 127),
+        77 => registry_c::bihokura_audit(memory),
+        _ => admit(memory, filling_case(case)),
+    }
+}
+
+fn answer(memory: &mut [u64], case: u64) -> u64 {
+    if case < 17 {
+        opened(memory, case)
+    } else if case < 30 {
+        admit(memory, container_case(case))
+    } else if case < 40 {
+        admit(memory, policy_case(case))
+    } else if case < 50 {
+        asked(memory, case)
+    } else if case < 64 {
+        freed(memory, case)
+    } else {
+        filled(memory, case)
     }
 }
 
 fn run(memory: &mut [u64], case: u64) {
-    if case < 17 {
-        run_opening(memory, case);
-    } else if case < 30 {
-        admit(memory, case, container_case(case));
-    } else if case < 40 {
-        admit(memory, case, policy_case(case));
-    } else if case < 51 {
-        run_asking(memory, case);
-    } else if case < 64 {
-        run_freeing(memory, case);
-    } else {
-        run_filling(memory, case);
+    match case {
+        50 | 60 | 63 | 75 | 78 => show_counts(case, registry_c::bihokura_counts(memory)),
+        65 => repeat(memory, samples::container(2, 1), 255),
+        71 => repeat(memory, samples::policy(1, 0, 1, 2), 127),
+        _ => show(case, answer(memory, case)),
     }
 }
 
