@@ -17,7 +17,7 @@ fn refresh(memory: &mut [u64], c: usize)
     let mut selected = [[0u64; 4]; 128];
     let mut allowed = [[0u64; 4]; 128];
     let standing = stored::containers_standing(memory);
-    sets::fill_sets(memory, standing, 128, &mut selected, &mut allowed);
+    all_sets::fill_sets(memory, standing, 128, &mut selected, &mut allowed);
     let lines = reach::sides::lines_of(memory, standing, &selected, &allowed, c);
     let selecting = holders::holding(&selected, c);
     let allowing = holders::holding(&allowed, c);

@@ -4,12 +4,10 @@ ghost use mathlib.Core.Bool.{true};
 ghost use mathlib.Core.List.{map};
 ghost use Prim.Native.Nat.{_<_};
 ghost use lib.ListN.{length};
-ghost use Rattle.bitrow.specs.Bit.{bitAt};
 ghost use Rattle.buffer.specs.Buffer.{Puts};
 ghost use Rattle.model.specs.Findings.{nextAfter, walk, moved, findingCode};
 ghost use Rattle.formed.specs.Registry.{modelIn, bitsIn, wellFormed};
 ghost use Rattle.findings.specs.Steps.{nextStep, cursorPlace, placeAt};
-ghost use Rattle.container_findings.specs.Rows.{shownAt, containersStand, policiesStand};
 use model::Finding;
 
 // A place in the list of findings: any three numbers.
@@ -29,23 +27,6 @@ pub enum Step {
 pub struct Put {
     pub count: usize,
     pub cursor: Cursor,
-}
-
-// The findings of one kind at a, as the row of all b.
-fn finding_row(
-    memory: &[u64],
-    containers: [u64; 4],
-    policies: [u64; 4],
-    kind: usize,
-    a: usize,
-) -> [u64; 4]
-    requires { ⌜ (wellFormed (now memory) ≡ true) × (bitAt containers ≡ containersStand (now memory)) × (bitAt policies ≡ policiesStand (now memory)) × (a < 256) ⌝ }
-    ensures { λ r. ⌜ bitAt r ≡ shownAt (now (memory .entry)) kind a ⌝ }
-{
-    if kind < 5 {
-        return container_findings::container_row(memory, containers, kind, a);
-    }
-    policy_findings::policy_row(memory, policies, kind, a)
 }
 
 // The cursor at the finding whose number this is.
@@ -75,7 +56,7 @@ impl Cursor {
         let mut at = 0;
         while (kind < 8) & (at < list.len()) {
             if (0 < kind) & (a < 256) {
-                let row = finding_row(memory, containers, policies, kind, a);
+                let row = finding_rows::finding_row(memory, containers, policies, kind, a);
                 at = row_listing::put_row(
                     list,
                     at,

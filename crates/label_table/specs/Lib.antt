@@ -1,2 +1,4 @@
 -- What the contracts of `label_table` cite.
 pub mod LabelTable
+pub mod Rows
+pub mod LabelRows

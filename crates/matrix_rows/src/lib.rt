@@ -34,7 +34,7 @@ pub fn gather(
     requires { ⌜ Empty containerSlots (now outs) × Empty containerSlots (now backs) ⌝ }
     ensures { λ r. ⌜ Gathers (modelIn (now (memory .entry))) (bitAt some) r (now (selected .exit)) (now (allowed .exit)) (now (outs .exit)) (now (backs .exit)) ⌝ }
 {
-    sets::fill_sets(memory, standing, known, selected, allowed);
+    all_sets::fill_sets(memory, standing, known, selected, allowed);
     let sides = reach::sides::sides_of(memory, standing, selected, 2);
     let out = sides.out;
     let back = sides.back;

@@ -1,22 +1,9 @@
 // The test of the rows, and of a whole memory: whether it is well formed.
 ghost use mathlib.Core.Path.{_≡_};
-ghost use Prim.Native.Nat.{_<_};
 ghost use Rattle.bitrow.specs.Bit.{bitAt};
-ghost use Rattle.store.specs.Layout.{rowCount, Whole};
+ghost use Rattle.store.specs.Layout.{Whole};
 ghost use Rattle.formed.specs.Registry.{wellFormed};
-ghost use Rattle.formed.specs.Tests.{rowOk, matrixOk, setsOk};
-
-// Row r has only bits of standing containers, and none where the first word of its owner's slot is zero.
-fn row_ok(memory: &[u64], r: usize, owner: u64, standing: [u64; 4]) -> bool
-    requires { ⌜ Whole (now memory) × (r < rowCount) ⌝ }
-    ensures { λ t. ⌜ t ≡ rowOk (now (memory .entry)) (bitAt standing) owner r ⌝ }
-{
-    let row = access::row_at(memory, r);
-    if owner == 0 {
-        return row_tests::is_empty(row);
-    }
-    row_tests::part_of(row, standing)
-}
+ghost use Rattle.formed.specs.Tests.{matrixOk, setsOk};
 
 fn matrix_ok(memory: &[u64], standing: [u64; 4]) -> bool
     requires { ⌜ Whole (now memory) ⌝ }
@@ -24,7 +11,7 @@ fn matrix_ok(memory: &[u64], standing: [u64; 4]) -> bool
 {
     let mut a = 0;
     while a < store::CONTAINER_SLOTS {
-        if !row_ok(
+        if !word_tests::row_ok(
             memory,
             a,
             memory[store::CONTAINERS + store::CONTAINER_WORDS * a],
@@ -44,7 +31,7 @@ fn sets_ok(memory: &[u64], standing: [u64; 4]) -> bool
     let mut q = 0;
     while q < store::POLICY_SLOTS {
         let owner = memory[store::POLICIES + store::POLICY_WORDS * q];
-        if !row_ok(
+        if !word_tests::row_ok(
             memory,
             store::SELECTED_ROWS + store::SET_STEP * q,
             owner,
@@ -52,7 +39,7 @@ fn sets_ok(memory: &[u64], standing: [u64; 4]) -> bool
         ) {
             return false;
         }
-        if !row_ok(
+        if !word_tests::row_ok(
             memory,
             store::ALLOWED_ROWS + store::SET_STEP * q,
             owner,

@@ -2,15 +2,7 @@
 ghost use mathlib.Core.Path.{_≡_};
 ghost use Prim.Native.Nat.{_+_, _≤_};
 ghost use lib.ListN.{length};
-ghost use Rattle.formed.specs.Tests.{labelOk, labelsBetween, zeros as allZero, partOk};
-
-// A label's word: its key exceeds the key before it, and key and value are in range.
-fn label_ok(last: u64, w: u64) -> bool
-    ensures { λ r. ⌜ r ≡ labelOk last w ⌝ }
-{
-    let key = w / 65536;
-    (last < key) & ((key <= 64) & (0 < w % 65536))
-}
+ghost use Rattle.formed.specs.Tests.{labelsBetween, zeros as allZero, partOk};
 
 // The words from `from` on and before `to` are the labels of one list.
 fn labels_ok(memory: &[u64], from: usize, to: usize) -> bool
@@ -21,7 +13,7 @@ fn labels_ok(memory: &[u64], from: usize, to: usize) -> bool
     let mut i = from;
     while i < to {
         let w = memory[i];
-        if !label_ok(last, w) {
+        if !word_tests::label_ok(last, w) {
             return false;
         }
         last = w / 65536;

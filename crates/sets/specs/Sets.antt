@@ -9,7 +9,7 @@ use Rattle.bitrow.specs.Set.{nothing}
 use Rattle.model.specs.Model.{policySlots, Model, selectedBit, allowedBit}
 use Rattle.store.specs.Layout.{wordAt, policyStart}
 use Rattle.entries.specs.Entries.{PartOfLabels, trialSet}
-pub use Rattle.label_rows.specs.Rows.{bits, Shaped, Empty}
+pub use Rattle.label_table.specs.Rows.{bits, Shaped, Empty}
 
 -- row q is the set f q, for each q below n
 pub record RowsAre (n : ℕ) (f : ℕ → ℕ → Bool) (rows : List (List ℕ)) : Type 0 where

@@ -1,13 +1,12 @@
-// Candidate sets by the entries: what each policy selects and allows.
+// A part's candidates by the entries, of one policy and of each.
 ghost use mathlib.Core.Path.{_≡_};
 ghost use mathlib.Core.Bool.{true};
 ghost use Prim.Native.Nat.{_<_};
 ghost use Rattle.bitrow.specs.Bit.{bitAt};
-ghost use Rattle.model.specs.Table.{stands};
 ghost use Rattle.model.specs.Model.{policySlots};
-ghost use Rattle.formed.specs.Registry.{modelIn, wellFormed};
-ghost use Rattle.label_rows.specs.LabelRows.{LabelRows};
-ghost use Rattle.sets.specs.Sets.{RowsAre, EmptyBut, KnownSets, SetsOf, partSet, PartsWithin};
+ghost use Rattle.formed.specs.Registry.{wellFormed};
+ghost use Rattle.label_table.specs.LabelRows.{LabelRows};
+ghost use Rattle.sets.specs.Sets.{RowsAre, EmptyBut, partSet, PartsWithin};
 
 // Of the candidates, those that the part at an offset of policy q's slot matches; none where the slot is free.
 pub fn part_row(memory: &[u64], q: usize, offset: usize, candidates: [u64; 4]) -> [u64; 4]
@@ -41,7 +40,7 @@ fn part_by_labels(
 }
 
 // Such a row for each policy but `known`, whose row is there already.
-fn fill(
+pub fn fill(
     sets: &mut [[u64; 4]; 128],
     known: usize,
     memory: &[u64],
@@ -63,59 +62,4 @@ fn fill(
             sets[q] = row;
         }
     }
-}
-
-// What each policy selects and what it allows, by the label rows; the sets of the policy `known` are there already.
-fn fill_by_labels(
-    memory: &[u64],
-    standing: [u64; 4],
-    known: usize,
-    selected: &mut [[u64; 4]; 128],
-    allowed: &mut [[u64; 4]; 128],
-)
-    requires { ⌜ (wellFormed (now memory) ≡ true) × (bitAt standing ≡ stands (modelIn (now memory) .containers)) ⌝ }
-    requires { ⌜ KnownSets (modelIn (now memory)) known (now selected) (now allowed) ⌝ }
-    ensures { λ u. ⌜ SetsOf (modelIn (now (memory .entry))) (now (selected .exit)) (now (allowed .exit)) ⌝ }
-{
-    let mut table = [0u64; 1024];
-    let mut rows = [[0u64; 4]; 1024];
-    label_table::enter_all(&mut table, memory);
-    label_rows::mark_all(&mut rows, &table, memory);
-    fill(
-        selected,
-        known,
-        memory,
-        &table,
-        &rows,
-        store::SELECT,
-        standing,
-    );
-    fill(
-        allowed,
-        known,
-        memory,
-        &table,
-        &rows,
-        store::ALLOW,
-        standing,
-    );
-}
-
-// What each policy selects and what it allows, into rows that are empty but for those of the policy `known` (128 where there is
-// none), whose sets are there already. Where no policy stands all rows stay as they are.
-pub fn fill_sets(
-    memory: &[u64],
-    standing: [u64; 4],
-    known: usize,
-    selected: &mut [[u64; 4]; 128],
-    allowed: &mut [[u64; 4]; 128],
-)
-    requires { ⌜ (wellFormed (now memory) ≡ true) × (bitAt standing ≡ stands (modelIn (now memory) .containers)) ⌝ }
-    requires { ⌜ KnownSets (modelIn (now memory)) known (now selected) (now allowed) ⌝ }
-    ensures { λ u. ⌜ SetsOf (modelIn (now (memory .entry))) (now (selected .exit)) (now (allowed .exit)) ⌝ }
-{
-    if row_tests::is_empty(stored::policies_standing(memory)) {
-        return;
-    }
-    fill_by_labels(memory, standing, known, selected, allowed);
 }

@@ -6,7 +6,7 @@ use Rattle.bitrow.specs.Bit.{bitAt}
 use Rattle.bitrow.proofs.Rows.{row-bounded}
 use Rattle.formed.proofs.Reading.{formed-whole}
 use Rattle.entries.proofs.FormedEntries.{formed-slots}
-use Rattle.label_rows.proofs.RowLaws.{Narrowing, narrow-none, narrow-found, narrow-missed, narrow-all, label-row}
+use Rattle.label_table.proofs.RowLaws.{Narrowing, narrow-none, narrow-found, narrow-missed, narrow-all, label-row}
 use Rattle.label_rows.proofs.matching.Statement.{statement}
 use Rattle.label_rows.proofs.matching.Tie as tie
 

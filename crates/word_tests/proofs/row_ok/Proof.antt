@@ -5,8 +5,8 @@ use Rattle.bitrow.specs.Bit.{bitAt}
 use Rattle.bitrow.specs.Set.{part, hasSome}
 use Rattle.formed.proofs.Rows.{row-free, row-owned}
 use borrow.Author.Needs.{needs}
-use Rattle.memory_tests.proofs.row_ok.Statement.{statement}
-use Rattle.memory_tests.proofs.row_ok.Tie as tie
+use Rattle.word_tests.proofs.row_ok.Statement.{statement}
+use Rattle.word_tests.proofs.row_ok.Tie as tie
 
 returns : tie.Need-returns
 returns c = c .is-empty .ensures ∙ ap (λ row. not (hasSome (bitAt row))) (c .before .before .row-at .ensures) ∙ sym (row-free _ _ _ _ (c .before .if1 .taken))

@@ -4,9 +4,9 @@ use mathlib.Core.Path.{sym, ap, _∙_}
 use mathlib.Core.Bool.{not}
 use Rattle.bitrow.specs.Set.{hasSome}
 use Rattle.formed.proofs.Reading.{formed-whole}
 use Rattle.sets.proofs.Candidates.{sets-none}
-use Rattle.sets.proofs.fill_sets.Statement.{statement}
-use Rattle.sets.proofs.fill_sets.Tie as tie
+use Rattle.all_sets.proofs.fill_sets.Statement.{statement}
+use Rattle.all_sets.proofs.fill_sets.Tie as tie
 
 policies-standing-requires : tie.Need-policies-standing-requires
 policies-standing-requires c κs = formed-whole _ (c .before .pre .0 .0)

@@ -1,8 +1,8 @@
 -- The container is put into one row, or no row is this label's.
 use borrow.Author.Needs.{needs}
-use Rattle.label_rows.proofs.RowLaws.{mark-found, mark-missed}
-use Rattle.label_rows.proofs.mark.Statement.{statement}
-use Rattle.label_rows.proofs.mark.Tie as tie
+use Rattle.label_table.proofs.RowLaws.{mark-found, mark-missed}
+use Rattle.label_marks.proofs.mark.Statement.{statement}
+use Rattle.label_marks.proofs.mark.Tie as tie
 
 returns : tie.Need-returns
 returns c =

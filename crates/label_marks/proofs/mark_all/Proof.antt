@@ -6,10 +6,10 @@ use Prim.Native.Nat.{_-_, _≤_}
 use Rattle.formed.proofs.Reading.{formed-whole}
 use Rattle.entries.proofs.FormedEntries.{formed-slots}
 use Rattle.entries.proofs.Trials.{container-within}
-use Rattle.label_rows.specs.LabelRows.{LabelRows}
-use Rattle.label_rows.proofs.RowLaws.{label-rows-none, rows-next}
-use Rattle.label_rows.proofs.mark_all.Statement.{statement}
-use Rattle.label_rows.proofs.mark_all.Tie as tie
+use Rattle.label_table.specs.LabelRows.{LabelRows}
+use Rattle.label_table.proofs.RowLaws.{label-rows-none, rows-next}
+use Rattle.label_marks.proofs.mark_all.Statement.{statement}
+use Rattle.label_marks.proofs.mark_all.Tie as tie
 
 abbrev Inv-loop : tie.InvT-loop
 Inv-loop rows₀ labels memory c₀ rows c = (c ≤ 256) × LabelRows memory labels c rows

@@ -19,9 +19,9 @@ use Rattle.store.specs.Layout.{containerStart, wordAt}
 use Rattle.formed.specs.Words.{labelIn, partIn}
 use Rattle.entries.specs.Entries.{matchingFrom, matching, trialSet}
 use Rattle.entries.proofs.PartLabels.{labelsFrom, carries-part, carries-hit, carries-skip, carries-done, matches-part, matches-fail, matches-skip, matches-done}
 use Rattle.label_table.specs.LabelTable.{places, tablePlace, Placed}
-use Rattle.label_rows.specs.Rows.{bits, Shaped, Empty}
-use Rattle.label_rows.specs.LabelRows.{put, Marked, carriers, LabelRows}
+use Rattle.label_table.specs.Rows.{bits, Shaped, Empty}
+use Rattle.label_table.specs.LabelRows.{put, Marked, carriers, LabelRows}
 
 -- ---- rows marked
 

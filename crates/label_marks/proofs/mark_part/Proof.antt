@@ -2,9 +2,9 @@
 use borrow.Author.Needs.{needs}
 use native.Mathlib.Omega.{arith}
 use Prim.Native.Nat.{_-_}
-use Rattle.label_rows.proofs.RowLaws.{Marking, marking-none, marking-next, marking-all}
-use Rattle.label_rows.proofs.mark_part.Statement.{statement}
-use Rattle.label_rows.proofs.mark_part.Tie as tie
+use Rattle.label_table.proofs.RowLaws.{Marking, marking-none, marking-next, marking-all}
+use Rattle.label_marks.proofs.mark_part.Statement.{statement}
+use Rattle.label_marks.proofs.mark_part.Tie as tie
 
 abbrev Inv-loop : tie.InvT-loop
 Inv-loop rows₀ labels memory at c end i₀ rows i = Marking memory labels c at end rows₀ rows i

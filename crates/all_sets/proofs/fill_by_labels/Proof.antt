@@ -1,7 +1,7 @@
 -- The table and its rows, then one fill for each of the two parts.
 use Rattle.sets.proofs.Candidates.{selects-within, allows-within, selected-known, allowed-known, selected-rows, allowed-rows, empty-rows}
-use Rattle.sets.proofs.fill_by_labels.Statement.{statement}
-use Rattle.sets.proofs.fill_by_labels.Tie as tie
+use Rattle.all_sets.proofs.fill_by_labels.Statement.{statement}
+use Rattle.all_sets.proofs.fill_by_labels.Tie as tie
 
 enter-all-requires : tie.Need-enter-all-requires
 enter-all-requires c κs = c .before .before .pre .0 .0

@@ -1,7 +1,7 @@
 -- The comparisons are those of `labelOk`.
 use Rattle.formed.specs.Tests.{labelOk}
-use Rattle.part_tests.proofs.label_ok.Statement.{statement}
-use Rattle.part_tests.proofs.label_ok.Tie as tie
+use Rattle.word_tests.proofs.label_ok.Statement.{statement}
+use Rattle.word_tests.proofs.label_ok.Tie as tie
 
 returns : tie.Need-returns
 unfolding labelOk

@@ -7,8 +7,8 @@ use Rattle.bitrow.specs.Set.{meet, under, insert}
 use Rattle.model.specs.Rules.{carries}
 use Rattle.store.specs.Layout.{containerStart}
 use Rattle.formed.specs.Words.{labelIn, partIn}
 use Rattle.label_table.specs.LabelTable.{places, tablePlace, Placed}
-use Rattle.label_rows.specs.Rows.{bits, Shaped}
+use Rattle.label_table.specs.Rows.{bits, Shaped}
 
 -- c put into s if the test passes
 unfoldable pub put : ℕ → Bool → (ℕ → Bool) → ℕ → Bool

@@ -1,2 +1,0 @@
--- The laws behind the proofs of `label_rows`.
-pub mod RowLaws
