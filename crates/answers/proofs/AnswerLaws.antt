@@ -26,19 +26,19 @@ use Rattle.answers.specs.Answers.{outcomeAnswer, replyAnswer, admittedAn
 
 -- ---- no two say the same
 
-pub outcome-injective : (x y : Outcome) → outcomeAnswer x ≡ outcomeAnswer y → x ≡ y
+outcome-injective : (x y : Outcome) → outcomeAnswer x ≡ outcomeAnswer y → x ≡ y
 outcome-injective (outcome.Refused m) (outcome.Refused n) e = cc
 outcome-injective (outcome.Refused m) outcome.Done e = cc
 outcome-injective outcome.Done (outcome.Refused n) e = cc
 outcome-injective outcome.Done outcome.Done e = cc
 
-pub reply-injective : (x y : Reply) → replyAnswer x ≡ replyAnswer y → x ≡ y
+reply-injective : (x y : Reply) → replyAnswer x ≡ replyAnswer y → x ≡ y
 reply-injective (reply.Refused m) (reply.Refused n) e = cc
 reply-injective (reply.Refused m) (reply.Says t) e = cc
 reply-injective (reply.Says t) (reply.Refused n) e = cc
 reply-injective (reply.Says t) (reply.Says u) e = cc
 
-pub admitted-injective : (x y : Admitted) → admittedAnswer x ≡ admittedAnswer y → x ≡ y
+admitted-injective : (x y : Admitted) → admittedAnswer x ≡ admittedAnswer y → x ≡ y
 admitted-injective (admitted.Refused m) (admitted.Refused n) e = cc
 admitted-injective (admitted.Refused m) (admitted.Container d) e = cc
 admitted-injective (admitted.Refused m) (admitted.Policy r) e = cc
@@ -55,7 +55,7 @@ admitted-injective (admitted.Policy q) (admitted.Policy r) e = let h : q .0 ≡ 
 abbrev cursorAt : Place → Cursor
 cursorAt p = record { kind = p .kind; a = p .a; b = p .b }
 
-pub next-injective : (x y : NextFinding) → nextAnswer x ≡ nextAnswer y → x ≡ y
+next-injective : (x y : NextFinding) → nextAnswer x ≡ nextAnswer y → x ≡ y
 next-injective (next.Refused m) (next.Refused n) e = cc
 next-injective (next.Refused m) (next.Found h d) e = cc
 next-injective (next.Refused m) next.Nothing e = cc
@@ -70,7 +70,7 @@ next-injective next.Nothing (next.Found h d) e = cc
 next-injective next.Nothing next.Nothing e = cc
 
 -- whatever the lists that the findings were put into
-pub put-injective : (x y : FindingsPut) (d e : List ℕ) → putAnswer x d ≡ putAnswer y e → countPut x ≡ countPut y → x ≡ y
+put-injective : (x y : FindingsPut) (d e : List ℕ) → putAnswer x d ≡ putAnswer y e → countPut x ≡ countPut y → x ≡ y
 put-injective (put.Refused m) (put.Refused n) d e h k = cc
 put-injective (put.Refused m) (put.Findings j q) d e h k = cc
 put-injective (put.Findings i p) (put.Refused n) d e h k = cc
@@ -78,7 +78,7 @@ put-injective (put.Findings i p) (put.Findings j q) d e h k =
     let c : cursorPlace p ≡ cursorPlace q = cc in
     ap₂ (λ n r. put.Findings n (cursorAt r)) k c
 
-pub counted-injective : (x y : Counted) → countedAnswer x ≡ countedAnswer y → x ≡ y
+counted-injective : (x y : Counted) → countedAnswer x ≡ countedAnswer y → x ≡ y
 counted-injective (counts.Refused m) (counts.Refused n) e = cc
 counted-injective (counts.Refused m) (counts.Counts a b n) e = cc
 counted-injective (counts.Counts a b n) (counts.Refused m) e = cc

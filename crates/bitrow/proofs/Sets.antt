@@ -192,7 +192,7 @@ unfolding under nothing
 under-zero = fun-ext (λ j. le-ltb j 0 zero-le)
 
 -- not below is from there on
-pub less-under : (s : ℕ → Bool) (i : ℕ) → less s (under i) ≡ meet (atLeast i) s
+less-under : (s : ℕ → Bool) (i : ℕ) → less s (under i) ≡ meet (atLeast i) s
 unfolding less meet
 less-under s i = fun-ext (λ j. and-comm (s j) (not (under i j)) ∙ ap (λ (b : Bool). b && s j) (go j (decLt j i)))
   where

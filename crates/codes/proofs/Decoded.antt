@@ -125,7 +125,7 @@ module _ (g : Finding) (c : Place) (i : InRange g) where
   unfolding findingCode
   top-found = top-small (codeOf (found g c)) (omega (arith, i .small .smallKind, i .small .smallA, i .small .smallB))
 
-  pub finding-back : findingOf (codeOf (found g c)) ≡ g
+  finding-back : findingOf (codeOf (found g c)) ≡ g
   unfolding findingOf findingCode
   finding-back =
       let n = codeOf (found g c) in
@@ -135,7 +135,7 @@ module _ (g : Finding) (c : Place) (i : InRange g) where
       λ j. record { kind = x j; a = y j; b = z j }
 
   -- no finding's number is that of none
-  pub found-some : 0 < codeOf (found g c)
+  found-some : 0 < codeOf (found g c)
   unfolding findingCode
   found-some = omega (arith, i .some)
 

@@ -66,7 +66,7 @@ module _ {f : ℕ → ℕ → Bool} {w n total a : ℕ} (g : Counting f w n tota
         rest = omega (arith, g .rest, ap (pairsFrom f w a) d, pairs-next f w a (n - (a + 1)));
       }
 
-  pub counting-all : n ≤ a → total ≡ pairsFrom f w 0 n
+  counting-all : n ≤ a → total ≡ pairsFrom f w 0 n
   counting-all h = let d : n - a ≡ 0 = omega arith in omega (arith, g .rest, ap (pairsFrom f w a) d, pairs-done f w a)
 
 pub pairs-counted : (s : Bits) {total a : ℕ} → Counting (s .matrix) containerSlots containerSlots total a → containerSlots ≤ a → total ≡ pairs s

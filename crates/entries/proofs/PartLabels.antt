@@ -48,7 +48,7 @@ module _ (m : List ℕ) where
   pub labels-next : (i end : ℕ) → i < end → labelsFrom i end ≡ labelIn (wordAt m i) ∷ labelsFrom (i + 1) end
   labels-next i end h = let e : end - i ≡ suc (end - (i + 1)) = omega arith in ap (labelsIn m i) e
 
-  pub labels-end : (i end : ℕ) → end ≤ i → labelsFrom i end ≡ []
+  labels-end : (i end : ℕ) → end ≤ i → labelsFrom i end ≡ []
   labels-end i end h = let e : end - i ≡ 0 = omega arith in ap (labelsIn m i) e
 
   part-labels : (p : ℕ) → partIn m p ≡ labelsFrom (p + 1) (p + wordAt m p)

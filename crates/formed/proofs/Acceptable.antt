@@ -23,10 +23,10 @@ use Rattle.formed.proofs.Tests.{implies, implied, all-each, each-all}
 
 module _ (m n : ℕ) (s t : ℕ → Bool) (f : ℕ → ℕ → Bool) where
   -- bits that are set are bits of standing slots
-  pub standing-test : ((i j : ℕ) → f i j ≡ true → (s i && t j) ≡ true) → ofStanding m n s t f ≡ true
+  standing-test : ((i j : ℕ) → f i j ≡ true → (s i && t j) ≡ true) → ofStanding m n s t f ≡ true
   standing-test h = all-below _ m (λ i l. all-below _ n (λ j k. implied (f i j) (s i && t j) (h i j)))
 
-  pub test-standing : ofStanding m n s t f ≡ true → (i j : ℕ) → i < m → j < n → f i j ≡ true → (s i && t j) ≡ true
+  test-standing : ofStanding m n s t f ≡ true → (i j : ℕ) → i < m → j < n → f i j ≡ true → (s i && t j) ≡ true
   test-standing e i j l k =
       implies (f i j) (s i && t j)
       (below-all (λ j. not (f i j) || (s i && t j)) n j (below-all (λ i. all (λ j. not (f i j) || (s i && t j)) (below n)) m i e l) k)

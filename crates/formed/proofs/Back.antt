@@ -57,7 +57,7 @@ module _ (r : Registry) (m : List ℕ) (h : Holds m (contentsOf r)) where
   unfolding contentsOf
   stored-bit x y hx hy = h .bits x y hx hy
 
-  pub settings-words : (k : ℕ) → k < settingsSize → wordAt m k ≡ settingsWord (r .model .settings) k
+  settings-words : (k : ℕ) → k < settingsSize → wordAt m k ≡ settingsWord (r .model .settings) k
   settings-words k l = entry-word k (omega arith) ∙ word-settings (r .model) k l
 
   pub container-words : (c : ℕ) → c < containerSlots → Words m (containerStart c) containerWords (containerWord (at (r .model .containers) c))
@@ -136,7 +136,7 @@ module _ (r : Registry) (ok : Acceptable r) (m : List ℕ) (h : Holds m (content
       let k : (λ q c. bitWithin m policySlots q (allowedRow q) c) ≡ r .bits .allowed = allowed-back in
       λ i. record { matrix = f i; selected = g i; allowed = k i }
 
-  pub registry-back : registryIn m ≡ r
+  registry-back : registryIn m ≡ r
   unfolding registryIn
   registry-back =
       let p : modelIn m ≡ r .model = model-back in

@@ -102,7 +102,7 @@ module _ (m : List ℕ) (from limit : ℕ) (ok : partOk m from limit ≡ true) w
   unfolding partOk
   head-pos = ltb-true _ _ (and-left _ _ ok)
 
-  pub part-valid : validLabels limit (partIn m from) ≡ true
+  part-valid : validLabels limit (partIn m from) ≡ true
   unfolding partOk validLabels partIn
   part-valid =
       let n = wordAt m from - 1 in
@@ -116,7 +116,7 @@ module _ (m : List ℕ) (from limit : ℕ) (ok : partOk m from limit ≡ true) w
   unfolding partOk
   past-zero k h l = eqb-true _ _ (between-at (λ i. eqb (wordAt m i) 0) _ _ (and-right _ _ (and-right _ _ (and-right _ _ ok))) k h l)
 
-  pub part-words : Words m from (limit + 1) (partWord (partIn m from))
+  part-words : Words m from (limit + 1) (partWord (partIn m from))
   unfolding partWord
   part-words zero h = let p = head-pos in ap (λ k. wordAt m k) (add-zero from) ∙ sym (part-length m from p)
   part-words (suc i) h =
@@ -144,7 +144,7 @@ module _ (m : List ℕ) (from limit : ℕ) (v : validLabels limit (partIn m from
       let r = both (allInRange ls) (rising ls) (both (leb (length ls) limit) (allInRange ls && rising ls) v .1) in
       run-labels m from ∙ valid-labels m (wordAt m from - 1) 0 (from + 1) (r .0) (rising-after ls (r .0) (r .1))
 
-  pub part-passes : partOk m from limit ≡ true
+  part-passes : partOk m from limit ≡ true
   unfolding partOk
   part-passes =
       let h = head-is in

@@ -179,7 +179,7 @@ module _ (m : List ℕ) (e : wellFormed m ≡ true) where
       (stand-bits m policySlots policyStart p (policy-stands m) allowedRow (bitsIn m .allowed) (allowed-in m) c (a .allowed) k h))))))
 
 -- the law
-pub tests-formed : (m : List ℕ) → Whole m → ((k : ℕ) → wordAt m k < 2 ^ 64) → tests m ≡ wellFormed m
+tests-formed : (m : List ℕ) → Whole m → ((k : ℕ) → wordAt m k < 2 ^ 64) → tests m ≡ wellFormed m
 tests-formed m w fit =
     same-test (tests m) (wellFormed m)
     (λ t. memory-formed m (record {

@@ -61,7 +61,7 @@ module _ {A : Type 0} (r : Registry) (call : Call) (size : ℕ) (t : Table A) (w
   free-within i e = free-at t i (rw whole (ltb-true i size e))
 
   -- a call that meets 10 and 11 of one slot
-  pub slot-step : (i : ℕ) → refusals r call ≡ slotChecks size t i
+  slot-step : (i : ℕ) → refusals r call ≡ slotChecks size t i
       → registryStep r call ≡ cond (ltb i size) (cond (isFree (at t i)) (r, refusal 11) (acceptedStep r call)) (r, refusal 10)
   unfolding registryStep unlessRefused
   slot-step i e = ap (λ cs. unlessRefused r call (firstRefusal cs)) e ∙ pick (ltb i size) (isFree (at t i)) refl refl
@@ -74,7 +74,7 @@ module _ {A : Type 0} (r : Registry) (call : Call) (size : ℕ) (t : Table A) (w
 
 -- a call that meets 10 and 11 of two slots
 module _ {A : Type 0} (r : Registry) (call : Call) (size : ℕ) (t : Table A) (whole : length t ≡ size) where
-  pub pair-step : (a b : ℕ) → refusals r call ≡ pairChecks size t a b
+  pair-step : (a b : ℕ) → refusals r call ≡ pairChecks size t a b
       → registryStep r call
       ≡ cond (ltb a size && ltb b size) (cond (isFree (at t a) || isFree (at t b)) (r, refusal 11) (acceptedStep r call)) (r, refusal 10)
   unfolding registryStep unlessRefused

@@ -78,7 +78,7 @@ module _ (g : Finding) where
       ∙ simp (and-or-distrib-right, and-or-distrib-left)
 
   -- Those listed of a list of kinds are those of one of them
-  pub kinds-listed : (k : ℕ) (xs : List Kind) → member g (ofKinds k xs) ≡ isOfOne k xs g
+  kinds-listed : (k : ℕ) (xs : List Kind) → member g (ofKinds k xs) ≡ isOfOne k xs g
   kinds-listed k [] = refl
   kinds-listed k (x ∷ xs) =
       any-append (same g) (ofKind k (x .holds) (x .firsts) (x .seconds)) (ofKinds (suc k) xs)

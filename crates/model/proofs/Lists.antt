@@ -60,7 +60,7 @@ module _ {A : Type 0} where
   any-append f [] m = refl
   any-append f (x ∷ l) m = rw (any-append f l m, or-assoc)
 
-  pub any-none : (f : A → Bool) (l : List A) → All (λ x. f x ≡ false) l → any f l ≡ false
+  any-none : (f : A → Bool) (l : List A) → All (λ x. f x ≡ false) l → any f l ≡ false
   any-none f [] t = refl
   any-none f (x ∷ l) t = rw (t .0) (any-none f l (t .1))
 

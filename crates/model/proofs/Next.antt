@@ -32,7 +32,7 @@ Nearest there c (some g) = Least there c g
 
 module _ (there : Finding → Bool) (c : Place) where
   -- one answer only
-  pub nearest-one : (o p : Option Finding) → Nearest there c o → Nearest there c p → o ≡ p
+  nearest-one : (o p : Option Finding) → Nearest there c o → Nearest there c p → o ≡ p
   nearest-one none none s t = refl
   nearest-one none (some g) s t = cc (s g (t .is), t .later)
   nearest-one (some g) none s t = cc (t g (s .is), s .later)
@@ -72,7 +72,7 @@ first-nearest c (x ∷ l) s = pick (after c x) refl (first-nearest c l (s .1))
 
 module _ (m : Model) (s : Bits) (c : Place) where
   -- of those listed
-  pub next-listed : Nearest (inList (findings m s)) c (nextAfter m s c)
+  next-listed : Nearest (inList (findings m s)) c (nextAfter m s c)
   unfolding nextAfter
   next-listed = first-nearest c (findings m s) (findings-rising m s)
 

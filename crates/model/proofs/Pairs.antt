@@ -55,11 +55,11 @@ module _ {A : Type 0} (t : Table A) (f : ℕ → ℕ → Bool)
       ∙ sym (pairs-total f (standing t) (standing t))
 
 module _ (m : Model) where
-  pub matrix-free-row : (a b : ℕ) → at (m .containers) a ≡ none → matrixBit m a b ≡ false
+  matrix-free-row : (a b : ℕ) → at (m .containers) a ≡ none → matrixBit m a b ≡ false
   unfolding matrixBit
   matrix-free-row a b h = rw h
 
-  pub matrix-free-column : (a b : ℕ) → at (m .containers) b ≡ none → matrixBit m a b ≡ false
+  matrix-free-column : (a b : ℕ) → at (m .containers) b ≡ none → matrixBit m a b ≡ false
   unfolding matrixBit
   matrix-free-column a b h = rw h (clear (at (m .containers) a))
     where

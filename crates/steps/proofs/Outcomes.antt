@@ -99,11 +99,11 @@ module _ (m : List ℕ) where
   step-refused w call f e = step-past w call ∙ ap (memoryOutcome m call) e ∙ refused-outcome m call f
 
   -- a change, and a call that asks
-  pub step-changed : wellFormed m ≡ true → (c : Change) → firstRefusal (refusals (registryIn m) (change c)) ≡ Passed
+  step-changed : wellFormed m ≡ true → (c : Change) → firstRefusal (refusals (registryIn m) (change c)) ≡ Passed
       → memoryStep m (change c) ≡ (image (acceptedStep (registryIn m) (change c) .0), acceptedStep (registryIn m) (change c) .1)
   step-changed w c e = step-past w (change c) ∙ ap (memoryOutcome m (change c)) e ∙ changed-outcome m c
 
-  pub step-asked : wellFormed m ≡ true → (q : Query) → firstRefusal (refusals (registryIn m) (ask q)) ≡ Passed
+  step-asked : wellFormed m ≡ true → (q : Query) → firstRefusal (refusals (registryIn m) (ask q)) ≡ Passed
       → memoryStep m (ask q) ≡ (m, acceptedStep (registryIn m) (ask q) .1)
   step-asked w q e = step-past w (ask q) ∙ ap (memoryOutcome m (ask q)) e ∙ accepted-outcome m (ask q)
 

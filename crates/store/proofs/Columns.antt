@@ -83,7 +83,7 @@ module _ (c : Contents) (t : Band) (f : ℕ → (ℕ → Bool) → ℕ → Bool)
   unfolding withRows
   rows-words = refl
 
-  pub rows-none : SameContents c (withRows c (firstRows t 0) f)
+  rows-none : SameContents c (withRows c (firstRows t 0) f)
   unfolding withRows
   rows-none = record { words = λ k l. refl; bits = λ r y hr hy. ap (λ (u : Bool). cond u (f (bandIndex t r) (c .bits r)) (c .bits r) y) (sym (band-out (firstRows t 0) r (λ i l e. not-suc-le-zero l))) }
 
@@ -152,7 +152,7 @@ module _ {c : Contents} {t : Band} {f : ℕ → (ℕ → Bool) → ℕ → Bool}
 -- the same of a loop as a run of turns
 module _ (turn : ℕ → List ℕ → List ℕ) (f : ℕ → (ℕ → Bool) → ℕ → Bool) (t : Band) (pos : 0 < t .step)
     (each : (i : ℕ) → i < t .count → (m : List ℕ) (c : Contents) → Holds m c → Holds (turn i m) (withRow c (bandRow t i) (f i (c .bits (bandRow t i))))) where
-  pub holds-rows : {m : List ℕ} {c : Contents} → Holds m c → Holds (runs turn m (t .count)) (withRows c t f)
+  holds-rows : {m : List ℕ} {c : Contents} → Holds m c → Holds (runs turn m (t .count)) (withRows c t f)
   holds-rows {m} {c} h =
       holds-runs turn (λ n. withRows c (firstRows t n) f) (t .count)
       (λ n l hn g. holds-as (each n hn l (withRows c (firstRows t n) f) g) (withRows c (firstRows t (suc n)) f) (rows-more c t f n pos))

@@ -96,19 +96,19 @@ module _ (c : Contents) where
   unfolding imageOf
   image-length = length-tab memoryWords (imageWord c)
 
-  pub image-word : (k : ℕ) → k < memoryWords → wordAt (imageOf c) k ≡ imageWord c k
+  image-word : (k : ℕ) → k < memoryWords → wordAt (imageOf c) k ≡ imageWord c k
   unfolding imageOf
   image-word k h = getD-tab memoryWords (imageWord c) k 0 h
 
-  pub image-entry : (k : ℕ) → k < rowsStart → wordAt (imageOf c) k ≡ c .words k
+  image-entry : (k : ℕ) → k < rowsStart → wordAt (imageOf c) k ≡ c .words k
   unfolding imageWord
   image-entry k h = image-word k (omega arith) ∙ (rw (lt-ltb k rowsStart h))
 
-  pub image-packed : (k : ℕ) → rowsStart ≤ k → k < memoryWords → wordAt (imageOf c) k ≡ ofBits 64 (wordBits c k)
+  image-packed : (k : ℕ) → rowsStart ≤ k → k < memoryWords → wordAt (imageOf c) k ≡ ofBits 64 (wordBits c k)
   unfolding imageWord
   image-packed k g h = image-word k h ∙ (rw (le-ltb k rowsStart g))
 
-  pub image-bit : (r y : ℕ) → r < rowCount → y < 256 → rowBit (imageOf c) r y ≡ c .bits r y
+  image-bit : (r y : ℕ) → r < rowCount → y < 256 → rowBit (imageOf c) r y ≡ c .bits r y
   unfolding rowBit
   image-bit r y hr hy =
       let k = rowStart r + y / 64 in
@@ -121,7 +121,7 @@ module _ (c : Contents) where
   image-holds = record { whole = image-length; words = image-entry; bits = image-bit }
 
   -- a word of the rows, and a word past the memory's end
-  pub image-rows-fit : (k : ℕ) → rowsStart ≤ k → wordAt (imageOf c) k < 2 ^ 64
+  image-rows-fit : (k : ℕ) → rowsStart ≤ k → wordAt (imageOf c) k < 2 ^ 64
   unfolding imageOf
   image-rows-fit k g =
       by-ltb (λ t. wordAt (imageOf c) k < 2 ^ 64) k memoryWords

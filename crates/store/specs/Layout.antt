@@ -76,6 +76,7 @@ bandRow t i = t .first + t .step * i
 abbrev pub bandIndex : Band → ℕ → ℕ
 bandIndex t r = (r - t .first) / t .step
 
+-- r is a row of the table
 unfoldable pub inBand : Band → ℕ → Bool
 inBand t r = leb (t .first) r && (eqb ((r - t .first) % t .step) 0 && ltb (bandIndex t r) (t .count))
 
