@@ -1,2 +1,2 @@
--- The laws of the policies whose set has a container, for the proofs here and for callers'.
+-- The laws of the policies whose set has a container, for `holders` and its callers.
 pub mod HoldingLaws
