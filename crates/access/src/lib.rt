@@ -3,7 +3,7 @@ ghost use mathlib.Core.Path.{_≡_};
 ghost use Prim.Native.Nat.{_+_, _<_, _≤_};
 ghost use lib.ListN.{length};
 ghost use lib.Seq.{sets};
-ghost use Rattle.store.specs.Layout.{policyWords, rowCount, Whole, rowAt};
+ghost use Rattle.store.specs.Layout.{rowCount, Whole, rowAt};
 ghost use Rattle.store.specs.Memory.{fourWords, slotSet, rowSet, cleared};
 
 // Row r of the rows of bits.
@@ -15,14 +15,14 @@ pub fn row_at(memory: &[u64], r: usize) -> [u64; 4]
     [memory[at], memory[at + 1], memory[at + 2], memory[at + 3]]
 }
 
-// The first n of the words stored from `start` on: a container's slot, a policy's, or the settings.
-pub fn set_slot(memory: &mut [u64], start: usize, n: usize, words: [u64; store::POLICY_WORDS])
-    requires { ⌜ (start + n ≤ length (now memory)) × (n ≤ policyWords) ⌝ }
-    ensures { λ u. ⌜ now (memory .exit) ≡ slotSet (now (memory .entry)) start n words ⌝ }
+// A slot of n words made free: every word from `start` on 0.
+pub fn clear_slot(memory: &mut [u64], start: usize, n: usize)
+    requires { ⌜ start + n ≤ length (now memory) ⌝ }
+    ensures { λ u. ⌜ now (memory .exit) ≡ slotSet (now (memory .entry)) start n (λ k. 0) ⌝ }
 {
     let mut k = 0;
     while k < n {
-        memory[start + k] = words[k];
+        memory[start + k] = 0;
         k += 1;
     }
 }

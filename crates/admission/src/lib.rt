@@ -5,7 +5,6 @@ ghost use Rattle.steps.specs.MemoryStep.{memoryStep};
 ghost use Rattle.answers.specs.Answers.{admittedAnswer};
 use answers::Admitted;
 use block::Settings;
-use block::Sort;
 use block::Tested;
 
 // The container or policy of the block comes to the lowest free slot of its table.
@@ -21,19 +20,12 @@ pub fn admit(memory: &mut [u64], block: &[u8]) -> Admitted
         system_key: memory[1],
         system_value: memory[2],
     };
-    let reading = reader::read_entry(settings, block);
-    let read = reading.tested;
-    if let Tested::Refused(why) = read {
+    let tested = reader::test_entry(settings, block);
+    if let Tested::Refused(why) = tested {
         return Admitted::Refused(why.number);
     }
-    let entry = reading.entry;
-    let sort = entry.sort;
-    let first = entry.first;
-    match sort {
-        Sort::Container => free_slots::admit_container(memory, first),
-        Sort::Policy => {
-            let second = entry.second;
-            free_slots::admit_policy(memory, entry.direction, first, second)
-        }
+    if block[0] == 67 {
+        return free_slots::admit_container(memory, block);
     }
+    free_slots::admit_policy(memory, block)
 }

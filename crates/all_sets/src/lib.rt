@@ -1,9 +1,8 @@
 // What each policy selects and allows, of all policies at once.
 ghost use mathlib.Core.Path.{_≡_};
-ghost use mathlib.Core.Bool.{true};
 ghost use Rattle.bitrow.specs.Bit.{bitAt};
 ghost use Rattle.model.specs.Table.{stands};
-ghost use Rattle.formed.specs.Registry.{modelIn, wellFormed};
+ghost use Rattle.formed.specs.Registry.{modelIn, EntriesFormed};
 ghost use Rattle.sets.specs.Sets.{KnownSets, SetsOf};
 
 // What each policy selects and what it allows, by the label rows; the sets of the policy `known` are there already.
@@ -14,7 +13,7 @@ fn fill_by_labels(
     selected: &mut [[u64; 4]; 128],
     allowed: &mut [[u64; 4]; 128],
 )
-    requires { ⌜ (wellFormed (now memory) ≡ true) × (bitAt standing ≡ stands (modelIn (now memory) .containers)) ⌝ }
+    requires { ⌜ EntriesFormed (now memory) × (bitAt standing ≡ stands (modelIn (now memory) .containers)) ⌝ }
     requires { ⌜ KnownSets (modelIn (now memory)) known (now selected) (now allowed) ⌝ }
     ensures { λ u. ⌜ SetsOf (modelIn (now (memory .entry))) (now (selected .exit)) (now (allowed .exit)) ⌝ }
 {
@@ -51,7 +50,7 @@ pub fn fill_sets(
     selected: &mut [[u64; 4]; 128],
     allowed: &mut [[u64; 4]; 128],
 )
-    requires { ⌜ (wellFormed (now memory) ≡ true) × (bitAt standing ≡ stands (modelIn (now memory) .containers)) ⌝ }
+    requires { ⌜ EntriesFormed (now memory) × (bitAt standing ≡ stands (modelIn (now memory) .containers)) ⌝ }
     requires { ⌜ KnownSets (modelIn (now memory)) known (now selected) (now allowed) ⌝ }
     ensures { λ u. ⌜ SetsOf (modelIn (now (memory .entry))) (now (selected .exit)) (now (allowed .exit)) ⌝ }
 {

@@ -13,29 +13,29 @@ use Rattle.model.proofs.Consistent.{consistent-exactly}
 use Rattle.store.specs.Layout.{rowCount, rowAt}
 use Rattle.store.specs.Contents.{Holds}
 use Rattle.store.proofs.Carried.{row-bit}
-use Rattle.formed.specs.Registry.{modelIn, bitsIn, registryIn, storedBit, contentsOf, wellFormed}
+use Rattle.formed.specs.Registry.{modelIn, bitsIn, registryIn, storedBit, contentsOf, EntriesFormed}
 use Rattle.formed.specs.Tests.{between}
 use Rattle.formed.proofs.Runs.{between-at, between-all}
 use Rattle.formed.proofs.Back.{matrix-bit, selected-bit, allowed-bit}
-use Rattle.formed.proofs.Formed.{formed-holds}
+use Rattle.formed.proofs.Reading.{entries-hold}
 use Rattle.formed.proofs.StoredLaws.{stored-cong}
 
 -- row x of a memory is by the rules of its entries
 unfoldable pub ruledRow : List ℕ → ℕ → Bool
 ruledRow m x = equal (bitAt (rowAt m x)) (storedBit (computedBits (modelIn m)) x)
 
-module _ (m : List ℕ) (ok : wellFormed m ≡ true) where
+module _ (m : List ℕ) (ok : EntriesFormed m) where
   follows-row : FollowsRules (registryIn m) → (x : ℕ) → x < rowCount → ruledRow m x ≡ true
   unfolding ruledRow Agree contentsOf registryIn
   follows-row f x l = equal-all (bitAt (rowAt m x)) (storedBit (computedBits (modelIn m)) x) (λ y h.
-      row-bit m x y h ∙ formed-holds m ok .bits x y l h
+      row-bit m x y h ∙ entries-hold m ok .bits x y l h
       ∙ stored-cong (bitsIn m) (computedBits (modelIn m)) x y l (λ a k _. f .matrix a y k h) (λ q k _. f .selected q y k h) (λ q k _. f .allowed q y k h))
 
   -- a memory whose rows are those by the rules holds the registry rebuilt
   rows-hold : ((x : ℕ) → x < rowCount → ruledRow m x ≡ true) → Holds m (contentsOf (rebuilt (registryIn m)))
   unfolding ruledRow contentsOf rebuilt computed registryIn
   rows-hold f =
-      let h = formed-holds m ok in
+      let h = entries-hold m ok in
       record {
         whole = h .whole;
         words = h .words;
@@ -46,7 +46,7 @@ module _ (m : List ℕ) (ok : wellFormed m ≡ true) where
   unfolding Agree rebuilt computed
   rows-follow g =
       let r = registryIn m in
-      let h = formed-holds m ok in
+      let h = entries-hold m ok in
       record {
         matrix = λ a b k l. sym (matrix-bit r m h a b k l) ∙ matrix-bit (rebuilt r) m g a b k l;
         selected = λ q c k l. sym (selected-bit r m h q c k l) ∙ selected-bit (rebuilt r) m g q c k l;

@@ -1,12 +1,11 @@
 // The audit: every stored bit compared with the rules.
 ghost use mathlib.Core.Path.{_≡_};
-ghost use mathlib.Core.Bool.{true};
 ghost use Rattle.model.specs.Registry.{consistent};
-ghost use Rattle.formed.specs.Registry.{registryIn, wellFormed};
+ghost use Rattle.formed.specs.Registry.{registryIn, EntriesFormed};
 
 // "Do all kept bits equal the rules?"
 pub fn is_consistent(memory: &[u64]) -> bool
-    requires { ⌜ wellFormed (now memory) ≡ true ⌝ }
+    requires { ⌜ EntriesFormed (now memory) ⌝ }
     ensures { λ r. ⌜ r ≡ consistent (registryIn (now (memory .entry))) ⌝ }
 {
     let mut selected = [[0u64; 4]; 128];

@@ -5,14 +5,17 @@ use mathlib.Core.Logic.{_↔_}
 use mathlib.Core.Bool.{Bool, true, false, _&&_, _||_, cond, and-true, and-false, false-or, and-assoc, and-comm, and-eq-true-iff}
 use mathlib.Core.List.{List, [], _∷_}
 use Prim.Native.Nat.{ℕ}
+use borrow.Author.Tests.{eq-eqb, ne-eqb}
 use lib.Dec.{eqb}
 use lib.ListN.{length}
 use Rattle.block.specs.declared.Fault.the-variants.{Nowhere}
+use Rattle.block.specs.declared.Tested.{Tested}
+use Rattle.block.specs.declared.Tested.the-variants.{Passed}
 use Rattle.block.specs.Entry.{Settings, Entry, container, policy}
 use Rattle.block.specs.Bytes.{byteAt, numberAt, checksum}
 use Rattle.block.specs.Fault.{clear}
-use Rattle.block.specs.Refusal.{accepted}
-use Rattle.block.specs.Reader.{within, labelsAt, rangeFaults, orderFaults, unusedFault, containerLayout, policyLayout, isContainer, layoutOf, policySaid, entrySaid, settingsFault, settingsSaid, settingsChecks, entryChecks, readSettings, readEntry}
+use Rattle.block.specs.Refusal.{firstRefusal, accepted, readUnless}
+use Rattle.block.specs.Reader.{within, rangeFaults, orderFaults, unusedFault, containerLayout, policyLayout, isContainer, layoutOf, containerSaid, policySaid, entrySaid, settingsFault, settingsSaid, settingsChecks, entryChecks, readSettings, readEntry, AcceptedAs}
 use Rattle.block.specs.Written.{validEntry, validSettings}
 use Rattle.block.proofs.Faults.{clear-unless, clear-orElse}
 use Rattle.block.proofs.LabelLists.{valid-clear}
@@ -73,8 +76,8 @@ and-left-comm true b c = refl
 and-left-comm false b c = sym (and-false b)
 
 module _ (s : Settings) (b : List ℕ) where
-  by-kind : (t : Bool) → let l = cond t (containerLayout b) (policyLayout b) in (clear (l .limits) && (clear (rangeFaults b (l .runs)) && clear (orderFaults b (l .runs)))) ≡ ((t || within 1 2 (byteAt b 1)) && validEntry s (cond t (container (labelsAt b 4 (byteAt b 1))) (policy (policySaid b))))
-  unfolding containerLayout policyLayout policySaid validEntry
+  by-kind : (t : Bool) → let l = cond t (containerLayout b) (policyLayout b) in (clear (l .limits) && (clear (rangeFaults b (l .runs)) && clear (orderFaults b (l .runs)))) ≡ ((t || within 1 2 (byteAt b 1)) && validEntry s (cond t (container (containerSaid b)) (policy (policySaid b))))
+  unfolding containerLayout policyLayout containerSaid policySaid validEntry
   by-kind true = simp (clear-unless, clear-orElse, and-true, valid-clear)
   by-kind false = simp (clear-unless, clear-orElse, and-true, valid-clear, false-or, and-assoc, and-comm, and-left-comm)
 
@@ -91,9 +94,41 @@ settings-valid b s e =
     let r = settings-accepted b s .0 e in
     ap validSettings r.says ∙ sym (settings-clear b) ∙ ap clear r.ranges
 
-pub accepted-valid : (s : Settings) (b : List ℕ) (e : Entry) → readEntry s b ≡ accepted e → validEntry s e ≡ true
-accepted-valid s b e q =
-    let r = entry-accepted s b e .0 q in
-    let l = layoutOf b in
-    let c : (clear (l .limits) && (clear (rangeFaults b (l .runs)) && clear (orderFaults b (l .runs)))) ≡ true = rw (r.limits, r.ranges, r.orders) in
-    ap (validEntry s) r.says ∙ and-eq-true-iff (isContainer b || within 1 2 (byteAt b 1)) (validEntry s (entrySaid b)) .0 (sym (entry-clear s b) ∙ c) .1
+module _ (s : Settings) (b : List ℕ) (e : Entry) (q : AcceptedAs s b e) where
+  entry-passes : ((isContainer b || within 1 2 (byteAt b 1)) ≡ true) × (validEntry s (entrySaid b) ≡ true)
+  entry-passes =
+      let r = entry-accepted s b e .0 q in
+      let l = layoutOf b in
+      let c : (clear (l .limits) && (clear (rangeFaults b (l .runs)) && clear (orderFaults b (l .runs)))) ≡ true = rw (r.limits, r.ranges, r.orders) in
+      and-eq-true-iff (isContainer b || within 1 2 (byteAt b 1)) (validEntry s (entrySaid b)) .0 (sym (entry-clear s b) ∙ c)
+
+  pub accepted-valid : validEntry s e ≡ true
+  accepted-valid = ap (validEntry s) (entry-accepted s b e .0 q .says) ∙ entry-passes .1
+
+-- ---- what is read once the checks have answered: byte 0 tells which of the two
+
+module _ (s : Settings) (b : List ℕ) where
+  -- the reading, by what the checks answer
+  pub entry-read : (t : Tested) → firstRefusal (entryChecks s b) ≡ t → readEntry s b ≡ readUnless t (entrySaid b)
+  unfolding readEntry
+  entry-read t e = ap (λ (z : Tested). readUnless z (entrySaid b)) e
+
+  pub passed-long : firstRefusal (entryChecks s b) ≡ Passed → length b ≡ 512
+  passed-long e = entry-accepted s b (entrySaid b) .0 (entry-read Passed e) .long
+
+  pub accepted-container : firstRefusal (entryChecks s b) ≡ Passed → byteAt b 0 ≡ 67 → AcceptedAs s b (container (containerSaid b))
+  unfolding entrySaid
+  accepted-container e k = entry-read Passed e ∙ ap accepted (simp (eq-eqb _ _ k))
+
+  pub accepted-policy : firstRefusal (entryChecks s b) ≡ Passed → (byteAt b 0 ≡ 67 → ⊥) → AcceptedAs s b (policy (policySaid b))
+  unfolding entrySaid
+  accepted-policy e k = entry-read Passed e ∙ ap accepted (simp (ne-eqb _ _ k))
+
+  -- a policy's direction is one of the two
+  pub policy-direction : AcceptedAs s b (policy (policySaid b)) → within 1 2 (byteAt b 1) ≡ true
+  unfolding entrySaid
+  policy-direction q = go (isContainer b) (entry-accepted s b _ .0 q .says) (entry-passes s b _ q .0)
+    where
+      go : (t : Bool) → policy (policySaid b) ≡ cond t (container (containerSaid b)) (policy (policySaid b)) → (t || within 1 2 (byteAt b 1)) ≡ true → within 1 2 (byteAt b 1) ≡ true
+      go true e h = cc
+      go false e h = h

@@ -11,7 +11,7 @@ use lib.ListN.{length, length-append}
 use Rattle.block.specs.declared.Fault.the-variants.{Nowhere}
 use Rattle.block.specs.Entry.{Label, Direction, ingress, egress, Policy, Settings, Entry, container, policy}
 use Rattle.block.specs.Bytes.{byteAt}
-use Rattle.block.specs.Reader.{within, zeroFault, unusedFault, isContainer, layoutOf, containerLayout, policyLayout, directionOf, policySaid, entrySaid, settingsSaid, readSettings, readEntry}
+use Rattle.block.specs.Reader.{within, zeroFault, unusedFault, isContainer, layoutOf, containerLayout, policyLayout, directionOf, containerSaid, policySaid, entrySaid, settingsSaid, readSettings, readEntry}
 use Rattle.block.specs.Refusal.{accepted}
 use Rattle.block.specs.Written.{numberBytes, sealed, labelBytes, directionNumber, blockOf, settingsBlock, validLabels, validEntry, validSettings}
 use Rattle.block.proofs.Faults.{clear-none}
@@ -36,7 +36,7 @@ policy-back p rest =
     simp (direction-back, s, next, a)
 
 entry-back : (e : Entry) → entrySaid (blockOf e) ≡ e
-unfolding entrySaid blockOf
+unfolding entrySaid containerSaid blockOf
 entry-back (container c) = rw sealed-begins (ap container (labels-read (67 ∷ length c ∷ 0 ∷ 0 ∷ []) c _))
 entry-back (policy p) = rw (sealed-begins, append-assoc) (ap policy (policy-back p _))
 

@@ -1,14 +1,15 @@
 -- The readers of blocks: refusals 3 to 9, and what an accepted block says.
+use mathlib.Core.Path.{_≡_}
 use mathlib.Core.Bool.{Bool, _&&_, _||_, cond}
 use mathlib.Core.List.{List, [], _∷_, _++_}
 use Prim.Native.Nat.{ℕ, zero, suc, _+_, _-_, _*_}
 use lib.Dec.{eqb, leb, ltb}
 use lib.ListN.{length}
 use Rattle.block.specs.declared.Fault.{Fault}
-use Rattle.block.specs.Entry.{Label, Direction, ingress, egress, Policy, Settings, Entry, container, policy}
+use Rattle.block.specs.Entry.{Label, Container, Direction, ingress, egress, Policy, Settings, Entry, container, policy}
 use Rattle.block.specs.Bytes.{byteAt, numberAt, checksum}
 use Rattle.block.specs.Fault.{unless, orElse, firstBetween, firstIn}
-use Rattle.block.specs.Refusal.{Check, check, firstRefusal, Read, readUnless}
+use Rattle.block.specs.Refusal.{Check, check, firstRefusal, Read, accepted, readUnless}
 
 -- low ≤ x ≤ high
 unfoldable pub within : ℕ → ℕ → ℕ → Bool
@@ -109,13 +110,16 @@ layoutOf b = cond (isContainer b) (containerLayout b) (policyLayout b)
 unfoldable pub directionOf : ℕ → Direction
 directionOf n = cond (eqb n 1) ingress egress
 
+unfoldable pub containerSaid : List ℕ → Container
+containerSaid b = labelsAt b 4 (byteAt b 1)
+
 unfoldable pub policySaid : List ℕ → Policy
 policySaid b =
     let m = byteAt b 2 in
     record { direction = directionOf (byteAt b 1); select = labelsAt b 4 m; allow = labelsAt b (4 + 4 * m) (byteAt b 3) }
 
 unfoldable pub entrySaid : List ℕ → Entry
-entrySaid b = cond (isContainer b) (container (labelsAt b 4 (byteAt b 1))) (policy (policySaid b))
+entrySaid b = cond (isContainer b) (container (containerSaid b)) (policy (policySaid b))
 
 -- ---- the settings block
 
@@ -167,3 +171,7 @@ readSettings b = readUnless (firstRefusal (settingsChecks b)) (settingsSaid b)
 
 unfoldable pub readEntry : Settings → List ℕ → Read Entry
 readEntry s b = readUnless (firstRefusal (entryChecks s b)) (entrySaid b)
+
+-- b is a block that admit accepts under the settings s, as the entry e
+abbrev pub AcceptedAs : Settings → List ℕ → Entry → Type 0
+AcceptedAs s b e = readEntry s b ≡ accepted e

@@ -20,12 +20,6 @@ pub enum Tested {
     Refused(Refusal),
 }
 
-// A list of labels: how many, and each as key * 65536 + value. The words past the count are zero.
-pub struct Labels {
-    pub count: usize,
-    pub words: [u64; 8],
-}
-
 // The system key is 0 where no system label is set.
 pub struct Settings {
     pub user_key: u64,
@@ -33,28 +27,8 @@ pub struct Settings {
     pub system_value: u64,
 }
 
-// Which of the two an admission block is of.
-pub enum Sort {
-    Container,
-    Policy,
-}
-
-// A container: direction 0, its labels, no second list. A policy: its direction, its select and its allow labels.
-pub struct EntryWords {
-    pub sort: Sort,
-    pub direction: u64,
-    pub first: Labels,
-    pub second: Labels,
-}
-
 // The settings of a refused block are all zero.
 pub struct SettingsReading {
     pub tested: Tested,
     pub settings: Settings,
-}
-
-// The entry of a refused block is a container without labels.
-pub struct EntryReading {
-    pub tested: Tested,
-    pub entry: EntryWords,
 }

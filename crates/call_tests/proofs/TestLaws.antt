@@ -22,7 +22,8 @@ use Rattle.model.proofs.Agreement.{orRefusal, first-append}
 use Rattle.store.specs.Layout.{memoryWords, containersStart, containerWords, containerStart, policiesStart, policyWords, policyStart, wordAt}
 use Rattle.formed.specs.Words.{partIn, containerIn, policyAt, policyIn}
 use Rattle.formed.specs.Registry.{modelIn, registryIn, wellFormed}
-use Rattle.formed.proofs.Reading.{container-slot, policy-slot, container-taken, policy-taken, formed-whole}
+use Rattle.formed.proofs.Formed.{formed-memory}
+use Rattle.formed.proofs.Reading.{container-slot, policy-slot, container-taken, policy-taken}
 use Rattle.entries.specs.Entries.{SlotsWithin, freeIn}
 use Rattle.steps.specs.MemoryStep.{otherSize, formedCheck, meetsFormed, memoryRefusals, memoryOutcome, memoryStep}
 use Rattle.steps.proofs.Outcomes.{step-refused, sized-in}
@@ -135,10 +136,10 @@ module _ (m : List ℕ) where
 
   module _ (formed : wellFormed m ≡ true) where
     pub containers-within : SlotsWithin m containersStart containerWords containerSlots
-    containers-within = let w = formed-whole m formed in record { some = omega arith; all = omega arith }
+    containers-within = let w = formed-memory m formed .whole in record { some = omega arith; all = omega arith }
 
     pub policies-within : SlotsWithin m policiesStart policyWords policySlots
-    policies-within = let w = formed-whole m formed in record { some = omega arith; all = omega arith }
+    policies-within = let w = formed-memory m formed .whole in record { some = omega arith; all = omega arith }
 
     -- a call that meets the checks of one slot alone
     module _ (call : Call) (f : Refusal) where

@@ -1,2 +1,2 @@
 -- The laws behind the proofs of `clearing`.
-pub mod SlotLaws
+pub mod BitLaws

@@ -14,7 +14,7 @@ use Rattle.model.specs.Model.{containerSlots}
 use Rattle.model.specs.Findings.{allReachable, allIsolated, userCross, systemIsolation}
 use Rattle.model.specs.Findings as model
 use Rattle.store.specs.Layout.{rowAt}
-use Rattle.formed.specs.Registry.{modelIn, bitsIn, wellFormed}
+use Rattle.formed.specs.Registry.{modelIn, bitsIn, EntriesFormed}
 use Rattle.entries.proofs.Trials.{container-below}
 use Rattle.formed.proofs.StoredLaws.{row-within}
 use Rattle.entries.specs.Entries.{userWord}
@@ -99,7 +99,7 @@ module _ (m : List ℕ) (a : ℕ) (h : containersStand m a ≡ true) where
       swap true true true s t q = ap not (q refl)
 
   -- 3. a carries the user key: all others but those with its word
-  pub cross-row : wellFormed m ≡ true → {set same : ℕ → Bool} {word : ℕ} → set ≡ others → word ≡ userWord m a → (word ≡ 0 → ⊥) → same ≡ meet set (withUser m word) → less set same ≡ shownAt m 3 a
+  pub cross-row : EntriesFormed m → {set same : ℕ → Bool} {word : ℕ} → set ≡ others → word ≡ userWord m a → (word ≡ 0 → ⊥) → same ≡ meet set (withUser m word) → less set same ≡ shownAt m 3 a
   cross-row ok {set} {word = word} e w n q =
       ap (less set) (q ∙ meet-comm set (withUser m word)) ∙ less-meet set (withUser m word) ∙ ap (λ s. less s (withUser m word)) e
       ∙ cross-with (withUser m word) (less others (withUser m word))
@@ -107,7 +107,7 @@ module _ (m : List ℕ) (a : ℕ) (h : containersStand m a ≡ true) where
       (λ b. sym (less-at others (withUser m word) b))
 
   -- it does not: all others
-  pub cross-all : wellFormed m ≡ true → {set : ℕ → Bool} {word : ℕ} → set ≡ others → word ≡ userWord m a → word ≡ 0 → set ≡ shownAt m 3 a
+  pub cross-all : EntriesFormed m → {set : ℕ → Bool} {word : ℕ} → set ≡ others → word ≡ userWord m a → word ≡ 0 → set ≡ shownAt m 3 a
   cross-all ok e w z =
       e ∙ cross-with (λ b. false) others
       (λ b hb. formed-same-user m ok a b h hb ∙ ap (λ p. not p && eqb (userWord m a) (userWord m b)) (eq-eqb (userWord m a) 0 (sym w ∙ z)))

@@ -9,8 +9,8 @@ use Rattle.model.specs.Rules.{carries}
 use Rattle.model.specs.Findings.{isSystem}
 use Rattle.store.specs.Layout.{rowStart, rowBit, wordAt, containerStart}
 use Rattle.formed.specs.Words.{labelIn, partIn, settingsIn}
-use Rattle.formed.specs.Registry.{modelIn, bitsIn, wellFormed}
-use Rattle.formed.proofs.Reading.{matrix-in, formed-whole, formed-settings}
+use Rattle.formed.specs.Registry.{modelIn, bitsIn, EntriesFormed}
+use Rattle.formed.proofs.Reading.{matrix-in, formed-settings}
 use Rattle.entries.proofs.Trials.{container-below}
 use Rattle.entries.proofs.FormedEntries.{formed-system}
 use Rattle.entries.specs.Entries.{userWord}
@@ -32,10 +32,10 @@ module _ (m : List ℕ) (c a : ℕ) (h : c < 256) (l : a < 256) (wanted : Bool) 
 -- ---- slots
 
 -- a number of the row of standing containers
-pub at-container : (m row : List ℕ) (a : ℕ) → wellFormed m ≡ true → bitAt row ≡ containersStand m → bitAt row a ≡ true → AtContainer m row a
+pub at-container : (m row : List ℕ) (a : ℕ) → EntriesFormed m → bitAt row ≡ containersStand m → bitAt row a ≡ true → AtContainer m row a
 at-container m row a ok e h =
     let t = sym (ap (λ s. s a) e) ∙ h in
-    record { formed = ok; whole = formed-whole m ok; slots = e; here = t; below = container-below m a t }
+    record { formed = ok; slots = e; here = t; below = container-below m a t }
 
 -- ---- the user word, by the word read
 
@@ -50,7 +50,7 @@ module _ (m : List ℕ) (word c : ℕ) {r : ℕ} (e : r ≡ userWord m c) where
 
 -- ---- the system label
 
-module _ (m : List ℕ) (ok : wellFormed m ≡ true) where
+module _ (m : List ℕ) (ok : EntriesFormed m) where
   pub system-small : (wordAt m 1 ≤ 64) × (wordAt m 2 ≤ 65535)
   unfolding settingsIn
   system-small = (formed-settings m ok .key, formed-settings m ok .value)

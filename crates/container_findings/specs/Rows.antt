@@ -8,9 +8,9 @@ use Rattle.bitrow.specs.Bit.{bitAt}
 use Rattle.model.specs.Table.{stands}
 use Rattle.model.specs.Model.{Bits}
 use Rattle.model.specs.Findings.{finding, shown}
-use Rattle.store.specs.Layout.{Whole, wordAt, containerStart}
+use Rattle.store.specs.Layout.{wordAt, containerStart}
 use Rattle.formed.specs.Words.{partIn}
-use Rattle.formed.specs.Registry.{modelIn, bitsIn, wellFormed}
+use Rattle.formed.specs.Registry.{modelIn, bitsIn, EntriesFormed}
 use Rattle.entries.specs.Entries.{wordUnder}
 
 -- by the entries and the stored bits that a memory says
@@ -35,10 +35,9 @@ columnAs s a wanted c = Bool·beq (s .matrix c a) wanted
 unfoldable pub withUser : List ℕ → ℕ → ℕ → Bool
 withUser m word c = eqb (wordUnder (wordAt m 0) (partIn m (containerStart c))) word
 
--- a well-formed memory, the row of its standing containers, and one of them
+-- a memory that says entries, the row of its standing containers, and one of them
 pub record AtContainer (m row : List ℕ) (a : ℕ) : Type 0 where
-  pub formed : wellFormed m ≡ true
-  pub whole : Whole m
+  pub formed : EntriesFormed m
   pub slots : bitAt row ≡ containersStand m
   pub here : containersStand m a ≡ true
   pub below : a < 256

@@ -1,11 +1,10 @@
 // The findings over containers: kinds 1 to 4.
 ghost use mathlib.Core.Path.{_≡_};
-ghost use mathlib.Core.Bool.{true};
 ghost use Prim.Native.Nat.{_<_};
 ghost use Rattle.bitrow.specs.Bit.{bitAt};
 ghost use Rattle.bitrow.specs.Set.{meet, part};
 ghost use Rattle.store.specs.Layout.{Whole};
-ghost use Rattle.formed.specs.Registry.{bitsIn, wellFormed};
+ghost use Rattle.formed.specs.Registry.{bitsIn, EntriesFormed};
 ghost use Rattle.container_findings.specs.Rows.{shownAt, containersStand, zeroIf, columnAs, withUser, AtContainer};
 use bitrow::Found;
 
@@ -55,7 +54,7 @@ fn all_isolated(memory: &[u64], containers: [u64; 4], a: usize) -> [u64; 4]
 
 // Those of a set whose word under the user key is this one.
 fn same_user(memory: &[u64], set: [u64; 4], word: u64) -> [u64; 4]
-    requires { ⌜ (wellFormed (now memory) ≡ true) × Whole (now memory) ⌝ }
+    requires { ⌜ EntriesFormed (now memory) ⌝ }
     ensures { λ r. ⌜ bitAt r ≡ meet (bitAt set) (withUser (now (memory .entry)) word) ⌝ }
 {
     let key = memory[0];
@@ -113,7 +112,7 @@ fn system_isolation(memory: &[u64], containers: [u64; 4], a: usize) -> [u64; 4]
 
 // The findings of kind 1 to 4 at a, as the row of all b; of kind 0 there are none.
 pub fn container_row(memory: &[u64], containers: [u64; 4], kind: usize, a: usize) -> [u64; 4]
-    requires { ⌜ (wellFormed (now memory) ≡ true) × (bitAt containers ≡ containersStand (now memory)) × (a < 256) × (kind < 5) ⌝ }
+    requires { ⌜ EntriesFormed (now memory) × (bitAt containers ≡ containersStand (now memory)) × (a < 256) × (kind < 5) ⌝ }
     ensures { λ r. ⌜ bitAt r ≡ shownAt (now (memory .entry)) kind a ⌝ }
 {
     if !row_sets::has(containers, a) {

@@ -1,4 +1,4 @@
--- The entries of a well-formed memory: bounds for the code that reads them, and what it reads.
+-- The entries of a memory whose words say them: bounds for the code that reads them, and what it reads.
 use mathlib.Core.Path.{_≡_, sym, ap, _∙_, subst}
 use mathlib.Core.Bool.{true, not, _&&_}
 use mathlib.Core.List.{List}
@@ -13,10 +13,9 @@ use Rattle.model.specs.Model.{containerSlots, policySlots}
 use Rattle.model.specs.Findings.{sameUser, isSystem}
 use Rattle.store.specs.Layout.{selectOffset, allowOffset, containerStart, policyStart, wordAt}
 use Rattle.formed.specs.Words.{containerWord, policyWord, labelIn, partIn, policyAt, settingsIn}
-use Rattle.formed.specs.Registry.{modelIn, registryIn, validContainer, validPolicy, wellFormed}
+use Rattle.formed.specs.Registry.{modelIn, validContainer, validPolicy, EntriesFormed}
 use Rattle.formed.proofs.Parts.{labels-some, labels-in-range}
 use Rattle.formed.proofs.Slots.{valid-container, PolicyParts, valid-policy}
-use Rattle.formed.proofs.Formed.{formed-memory}
 use Rattle.formed.proofs.Reading.{container-free, container-taken, policy-slot, policy-free, policy-taken, formed-whole, formed-container, formed-policy, formed-head, formed-parts, formed-settings}
 use Rattle.formed.proofs.EntryTests.{past-word}
 use Rattle.entries.specs.Entries.{PartOfLabels, ZeroPast, SlotsFormed, userWord}
@@ -24,7 +23,7 @@ use Rattle.entries.proofs.PartLabels.{label-of}
 use Rattle.entries.proofs.Trials.{select-within, allow-within, container-at}
 use Rattle.entries.proofs.Keys.{same-user}
 
-module _ (m : List ℕ) (ok : wellFormed m ≡ true) where
+module _ (m : List ℕ) (ok : EntriesFormed m) where
   formed-past : (c : ℕ) → c < containerSlots → ZeroPast m (containerStart c)
   formed-past c h k a b = go (ℕ-discrete (wordAt m (containerStart c)) 0)
     where
@@ -48,10 +47,9 @@ module _ (m : List ℕ) (ok : wellFormed m ≡ true) where
     head = wordAt m (policyStart q)
 
     valid-parts : (head ≡ 0 → ⊥) → PolicyParts (policyAt m q)
-    unfolding registryIn
     valid-parts n =
         valid-policy (modelIn m .settings) (policyAt m q)
-        (subst (λ o. validPolicy (modelIn m .settings) o ≡ true) (policy-slot m q h ∙ policy-taken m q n) (formed-memory m ok .acceptable .policy q))
+        (subst (λ o. validPolicy (modelIn m .settings) o ≡ true) (policy-slot m q h ∙ policy-taken m q n) (ok .entries .policy q))
 
     labelled : (p : ℕ) → (head ≡ 0 → wordAt m p ≡ 0) → ((head ≡ 0 → ⊥) → validLabels 4 (partIn m p) ≡ true) → (k : ℕ) → p < k → k < p + wordAt m p → 0 < wordAt m k
     unfolding partIn
@@ -77,10 +75,9 @@ module _ (m : List ℕ) (ok : wellFormed m ≡ true) where
 
   module _ (c : ℕ) (s : stands (modelIn m .containers) c ≡ true) where
     pub formed-labels : validLabels 8 (partIn m (containerStart c)) ≡ true
-    unfolding registryIn
     formed-labels =
         valid-container (modelIn m .settings) (partIn m (containerStart c))
-        (subst (λ o. validContainer (modelIn m .settings) o ≡ true) (container-at m c s) (formed-memory m ok .acceptable .container c))
+        (subst (λ o. validContainer (modelIn m .settings) o ≡ true) (container-at m c s) (ok .entries .container c))
 
     -- whether c carries the system label
     pub formed-system : isSystem (modelIn m) c ≡ (not (eqb (wordAt m 1) 0) && carries (partIn m (containerStart c)) (labelIn (wordAt m 1 * 65536 + wordAt m 2)))

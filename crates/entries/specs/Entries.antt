@@ -37,7 +37,7 @@ pub record SlotAt (m : List ℕ) (at : ℕ) : Type 0 where
   pub head : wordAt m at ≤ containerWords
   pub past : ZeroPast m at
 
--- no part of a slot says more labels than its limit, and a container's slot is zero past them: so it is in a memory that is well formed
+-- no part of a slot says more labels than its limit, and a container's slot is zero past them: so it is where the words say entries
 pub record SlotsFormed (m : List ℕ) : Type 0 where
   pub container : (c : ℕ) → c < containerSlots → wordAt m (containerStart c) ≤ containerWords
   pub select : (q : ℕ) → q < policySlots → wordAt m (policyStart q + selectOffset) ≤ 5

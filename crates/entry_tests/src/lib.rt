@@ -28,7 +28,7 @@ fn container_ok(memory: &[u64], c: usize) -> bool
     if memory[at] == 0 {
         return part_tests::zeros(memory, at, at + store::CONTAINER_WORDS);
     }
-    part_tests::part_ok(memory, at, 8)
+    part_tests::part_ok(memory, at, store::CONTAINER_LABELS)
 }
 
 fn policy_ok(memory: &[u64], q: usize) -> bool
@@ -43,10 +43,10 @@ fn policy_ok(memory: &[u64], q: usize) -> bool
     if 2 < direction {
         return false;
     }
-    if !part_tests::part_ok(memory, at + store::SELECT, 4) {
+    if !part_tests::part_ok(memory, at + store::SELECT, store::PART_LABELS) {
         return false;
     }
-    part_tests::part_ok(memory, at + store::ALLOW, 4)
+    part_tests::part_ok(memory, at + store::ALLOW, store::PART_LABELS)
 }
 
 pub fn containers_ok(memory: &[u64]) -> bool

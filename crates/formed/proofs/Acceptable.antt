@@ -44,9 +44,10 @@ acceptable-test r ok =
     let m = r .model in
     let c = stands (m .containers) in
     let p = stands (m .policies) in
-    ap₂ _&&_ (ok .settings)
-    (ap₂ _&&_ (all-each (validContainer (m .settings)) none (m .containers) (λ i l. ok .container i))
-    (ap₂ _&&_ (all-each (validPolicy (m .settings)) none (m .policies) (λ i l. ok .policy i))
+    let v = ok .entries in
+    ap₂ _&&_ (v .settings)
+    (ap₂ _&&_ (all-each (validContainer (m .settings)) none (m .containers) (λ i l. v .container i))
+    (ap₂ _&&_ (all-each (validPolicy (m .settings)) none (m .policies) (λ i l. v .policy i))
     (ap₂ _&&_ (standing-test containerSlots containerSlots c c (r .bits .matrix) (ok .matrix))
     (ap₂ _&&_ (standing-test policySlots containerSlots p c (r .bits .selected) (ok .selected))
     (standing-test policySlots containerSlots p c (r .bits .allowed) (ok .allowed))))))
@@ -71,11 +72,13 @@ in-tables-acceptable r b e =
     let e4 = both (ofStanding containerSlots containerSlots c c (r .bits .matrix)) _ (e3 .1) in
     let e5 = both (ofStanding policySlots containerSlots p c (r .bits .selected)) _ (e4 .1) in
     record {
-      containers = b .containers;
-      policies = b .policies;
-      settings = e1 .0;
-      container = table-each (λ x. validEntry (m .settings) (container x)) (m .containers) (e2 .0);
-      policy = table-each (λ x. validEntry (m .settings) (policy x)) (m .policies) (e3 .0);
+      entries = record {
+        containers = b .containers;
+        policies = b .policies;
+        settings = e1 .0;
+        container = table-each (λ x. validEntry (m .settings) (container x)) (m .containers) (e2 .0);
+        policy = table-each (λ x. validEntry (m .settings) (policy x)) (m .policies) (e3 .0);
+      };
       matrix = λ i j t. let l = b .matrix i j t in test-standing containerSlots containerSlots c c (r .bits .matrix) (e4 .0) i j (l .0) (l .1) t;
       selected = λ i j t. let l = b .selected i j t in test-standing policySlots containerSlots p c (r .bits .selected) (e5 .0) i j (l .0) (l .1) t;
       allowed = λ i j t. let l = b .allowed i j t in test-standing policySlots containerSlots p c (r .bits .allowed) (e5 .1) i j (l .0) (l .1) t;

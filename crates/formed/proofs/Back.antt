@@ -1,5 +1,5 @@
 -- A memory that holds the contents of an acceptable registry says that registry; so does the registry's image.
-use mathlib.Core.Path.{_≡_, refl, sym, ap, _∙_, fun-ext}
+use mathlib.Core.Path.{_≡_, refl, sym, ap, _∙_, fun-ext, subst}
 use mathlib.Core.Bool.{false≢true, Bool, true, false, _&&_, cond}
 use mathlib.Core.List.{List}
 use mathlib.Core.Option.{none}
@@ -14,7 +14,7 @@ use Rattle.block.specs.Reader.{within}
 use Rattle.block.specs.Written.{validSettings}
 use Rattle.block.proofs.Checks.{within-bounds}
 use Rattle.model.specs.Table.{Table, on, at, stands}
-use Rattle.model.specs.Model.{containerSlots, policySlots}
+use Rattle.model.specs.Model.{containerSlots, policySlots, Model}
 use Rattle.model.specs.Registry.{Registry}
 use Rattle.model.proofs.Lists.{both}
 use Rattle.store.specs.Layout.{settingsSize, containersStart, containerWords, policiesStart, policyWords, memoryWords, rowsStart, rowCount, containerStart, policyStart, selectedRow, allowedRow, wordAt, rowBit}
@@ -23,8 +23,9 @@ use Rattle.store.proofs.Cases.{by-ltb}
 use Rattle.store.proofs.Image.{is-tab, holds-image, image-holds, image-length}
 use Rattle.store.proofs.Image.{image-words-fit}
 use Rattle.formed.specs.Words.{settingsWord, containerWord, policyWord, settingsIn, containerIn, policyIn}
-use Rattle.formed.specs.Registry.{modelIn, bitWithin, bitsIn, registryIn, entryWord, storedBit, contentsOf, image, Acceptable}
+use Rattle.formed.specs.Registry.{modelIn, bitWithin, bitsIn, registryIn, entryWord, storedBit, contentsOf, image, ValidEntries, Acceptable, EntriesFormed}
 use Rattle.formed.proofs.StoredLaws.{word-settings, by-part, slot-container, slot-policy, stored-matrix, stored-selected, stored-allowed}
+use Rattle.formed.proofs.Acceptable.{InTables}
 use Rattle.formed.proofs.Slots.{Words, container-back, policy-back, container-small, policy-small}
 
 -- ---- a slot that stands lies within its table
@@ -75,9 +76,9 @@ module _ (r : Registry) (m : List ℕ) (h : Holds m (contentsOf r)) where
   pub allowed-bit : (q c : ℕ) → q < policySlots → c < containerSlots → rowBit m (allowedRow q) c ≡ r .bits .allowed q c
   allowed-bit q c hq hc = stored-bit (allowedRow q) c (omega arith) hc ∙ point (stored-allowed (r .bits) q hq) c
 
--- ---- the registry is read back
+-- ---- the entries are read back, whatever the bits
 
-module _ (r : Registry) (ok : Acceptable r) (m : List ℕ) (h : Holds m (contentsOf r)) where
+module _ (r : Registry) (ok : ValidEntries (r .model)) (m : List ℕ) (h : Holds m (contentsOf r)) where
   settings-back : settingsIn m ≡ r .model .settings
   unfolding settingsIn
   settings-back =
@@ -96,7 +97,7 @@ module _ (r : Registry) (ok : Acceptable r) (m : List ℕ) (h : Holds m (content
       sym (is-tab policySlots (policyIn m) (r .model .policies) none (ok .policies)
       (λ q l. sym (policy-back (r .model .settings) m q (at (r .model .policies) q) (ok .policy q) (policy-words r m h q l))))
 
-  model-back : modelIn m ≡ r .model
+  pub model-back : modelIn m ≡ r .model
   unfolding modelIn
   model-back =
       let s : settingsIn m ≡ r .model .settings = settings-back in
@@ -104,29 +105,27 @@ module _ (r : Registry) (ok : Acceptable r) (m : List ℕ) (h : Holds m (content
       let p : tab policySlots (policyIn m) ≡ r .model .policies = policies-back in
       λ i. record { settings = s i; containers = c i; policies = p i }
 
-  -- slots that both stand lie within their tables
-  both-in : {A : Type 0} (t : Table A) (n : ℕ) → length t ≡ n → (x c : ℕ) → (stands t x && stands (r .model .containers) c) ≡ true → (x < n) × (c < containerSlots)
-  both-in t n long x c e =
-      let s = both (stands t x) (stands (r .model .containers) c) e in
-      let a = stands-below t x (s .0) in
-      let b = stands-below (r .model .containers) c (s .1) in
-      let k = ok .containers in
-      (omega arith, omega arith)
+  pub entries-written : EntriesFormed m
+  entries-written = record {
+    whole = h .whole;
+    entries = subst ValidEntries (sym model-back) ok;
+    words = λ k l. entry-word r m h k l ∙ ap (λ (p : Model). entryWord p k) (sym model-back);
+  }
 
+-- ---- the registry is read back, where no bit lies beyond the tables
+
+module _ (r : Registry) (ok : InTables r) (m : List ℕ) (h : Holds m (contentsOf r)) where
   matrix-back : (λ a b. bitWithin m containerSlots a a b) ≡ r .bits .matrix
   matrix-back =
-      table-back m containerSlots (λ a. a) (r .bits .matrix) (matrix-bit r m h)
-      (λ a b e. both-in (r .model .containers) containerSlots (ok .containers) a b (ok .matrix a b e))
+      table-back m containerSlots (λ a. a) (r .bits .matrix) (matrix-bit r m h) (ok .matrix)
 
   selected-back : (λ q c. bitWithin m policySlots q (selectedRow q) c) ≡ r .bits .selected
   selected-back =
-      table-back m policySlots selectedRow (r .bits .selected) (selected-bit r m h)
-      (λ q c e. both-in (r .model .policies) policySlots (ok .policies) q c (ok .selected q c e))
+      table-back m policySlots selectedRow (r .bits .selected) (selected-bit r m h) (ok .selected)
 
   allowed-back : (λ q c. bitWithin m policySlots q (allowedRow q) c) ≡ r .bits .allowed
   allowed-back =
-      table-back m policySlots allowedRow (r .bits .allowed) (allowed-bit r m h)
-      (λ q c e. both-in (r .model .policies) policySlots (ok .policies) q c (ok .allowed q c e))
+      table-back m policySlots allowedRow (r .bits .allowed) (allowed-bit r m h) (ok .allowed)
 
   bits-back : bitsIn m ≡ r .bits
   unfolding bitsIn
@@ -136,12 +135,30 @@ module _ (r : Registry) (ok : Acceptable r) (m : List ℕ) (h : Holds m (content
       let k : (λ q c. bitWithin m policySlots q (allowedRow q) c) ≡ r .bits .allowed = allowed-back in
       λ i. record { matrix = f i; selected = g i; allowed = k i }
 
-  registry-back : registryIn m ≡ r
-  unfolding registryIn
-  registry-back =
-      let p : modelIn m ≡ r .model = model-back in
-      let s : bitsIn m ≡ r .bits = bits-back in
-      λ i. record { model = p i; bits = s i }
+pub registry-back : (r : Registry) → ValidEntries (r .model) → InTables r → (m : List ℕ) → Holds m (contentsOf r) → registryIn m ≡ r
+unfolding registryIn
+registry-back r v ok m h =
+    let p : modelIn m ≡ r .model = model-back r v m h in
+    let s : bitsIn m ≡ r .bits = bits-back r ok m h in
+    λ i. record { model = p i; bits = s i }
+
+-- slots that stand lie within their tables
+acceptable-in-tables : (r : Registry) → Acceptable r → InTables r
+acceptable-in-tables r ok = record {
+  containers = ok .entries .containers;
+  policies = ok .entries .policies;
+  matrix = λ a b e. both-in (r .model .containers) containerSlots (ok .entries .containers) a b (ok .matrix a b e);
+  selected = λ q c e. both-in (r .model .policies) policySlots (ok .entries .policies) q c (ok .selected q c e);
+  allowed = λ q c e. both-in (r .model .policies) policySlots (ok .entries .policies) q c (ok .allowed q c e);
+}
+  where
+    both-in : {A : Type 0} (t : Table A) (n : ℕ) → length t ≡ n → (x c : ℕ) → (stands t x && stands (r .model .containers) c) ≡ true → (x < n) × (c < containerSlots)
+    both-in t n long x c e =
+        let s = both (stands t x) (stands (r .model .containers) c) e in
+        let a = stands-below t x (s .0) in
+        let b = stands-below (r .model .containers) c (s .1) in
+        let k = ok .entries .containers in
+        (omega arith, omega arith)
 
 -- ---- the image
 
@@ -155,7 +172,7 @@ image-contents r = image-holds (contentsOf r)
 
 -- the memory of a registry says that registry
 pub registry-image : (r : Registry) → Acceptable r → registryIn (image r) ≡ r
-registry-image r ok = registry-back r ok (image r) (image-contents r)
+registry-image r ok = registry-back r (ok .entries) (acceptable-in-tables r ok) (image r) (image-contents r)
 
 -- a memory is fixed by its registry, word for word
 pub image-inj : (r s : Registry) → Acceptable r → Acceptable s → image r ≡ image s → r ≡ s
@@ -193,14 +210,14 @@ settings-small s b (suc zero) = omega arith
 settings-small s b (suc (suc zero)) = omega arith
 settings-small s b (suc (suc (suc k))) = omega arith
 
-pub entry-small : (r : Registry) → Acceptable r → (k : ℕ) → entryWord (r .model) k ≤ 2 ^ 23
-entry-small r ok k =
-    let s = r .model .settings in
-    by-part (λ w. w ≤ 2 ^ 23) (r .model) k
+pub entry-small : (m : Model) → ValidEntries m → (k : ℕ) → entryWord m k ≤ 2 ^ 23
+entry-small m ok k =
+    let s = m .settings in
+    by-part (λ w. w ≤ 2 ^ 23) m k
     (λ l. settings-small s (settings-bounds s (ok .settings)) k)
-    (λ l g. container-small s (at (r .model .containers) ((k - containersStart) / containerWords)) (ok .container ((k - containersStart) / containerWords)) ((k - containersStart) % containerWords))
-    (λ g. policy-small s (at (r .model .policies) ((k - policiesStart) / policyWords)) (ok .policy ((k - policiesStart) / policyWords)) ((k - policiesStart) % policyWords))
+    (λ l g. container-small s (at (m .containers) ((k - containersStart) / containerWords)) (ok .container ((k - containersStart) / containerWords)) ((k - containersStart) % containerWords))
+    (λ g. policy-small s (at (m .policies) ((k - policiesStart) / policyWords)) (ok .policy ((k - policiesStart) / policyWords)) ((k - policiesStart) % policyWords))
 
 pub image-fits : (r : Registry) → Acceptable r → (k : ℕ) → getD (image r) k 0 < 2 ^ 64
 unfolding image contentsOf
-image-fits r ok k = image-words-fit (contentsOf r) (λ j l. omega (arith, entry-small r ok j)) k
+image-fits r ok k = image-words-fit (contentsOf r) (λ j l. omega (arith, entry-small (r .model) (ok .entries) j)) k

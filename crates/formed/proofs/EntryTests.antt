@@ -8,18 +8,18 @@ use native.Mathlib.Nat.{not-suc-le-zero, le-of-suc-le-suc, add-zero}
 use native.Mathlib.Omega.{arith}
 use lib.Dec.{eqb, ltb, leb}
 use lib.ListN.{length, getD, length-map, List·getD-eq-default}
-use borrow.Author.Tests.{ltb-true, leb-true, lt-ltb, le-ltb, le-leb, eqb-true, eqb-false, eq-eqb}
+use borrow.Author.Tests.{ltb-true, leb-true, lt-ltb, le-leb, eqb-true, eqb-false, eq-eqb}
 use Rattle.block.specs.Entry.{Label, Settings, ingress, egress}
 use Rattle.block.specs.Reader.{within, directionOf}
 use Rattle.block.specs.Written.{directionNumber, inRange, allInRange, risingAfter, rising, validLabels, validEntry}
 use Rattle.model.proofs.Lists.{both}
-use Rattle.store.specs.Layout.{containerWords, policyWords, selectOffset, allowOffset, containerStart, policyStart, wordAt}
+use Rattle.store.specs.Layout.{containerWords, policyWords, partSize, partOffset, selectOffset, allowOffset, containerStart, policyStart, wordAt}
 use Rattle.store.proofs.Cases.{by-ltb}
-use Rattle.formed.specs.Words.{labelWord, partWord, containerWord, policyWord, labelIn, labelsIn, partIn, containerIn, policyAt, policyIn}
+use Rattle.formed.specs.Words.{labelWord, partWord, partsOf, containerWord, policyWord, labelIn, labelsIn, partIn, containerIn, policyAt, policyIn}
 use Rattle.formed.specs.Registry.{validContainer, validPolicy}
 use Rattle.formed.specs.Tests.{_and_, choose, zeros, labelOk, labelsOk, labelsBetween, partOk, containerOk, policyOk}
 use Rattle.formed.proofs.Parts.{label-word, label-bounds, length-labels-in, labels-few}
-use Rattle.formed.proofs.Slots.{Words, first-word, direction-small}
+use Rattle.formed.proofs.Slots.{Words, first-word, direction-small, policy-part-words}
 use Rattle.formed.proofs.Runs.{and-left, and-right, and-passes, between-at, between-all}
 
 -- ---- labels
@@ -188,7 +188,8 @@ module _ (s : Settings) (m : List ℕ) (c : ℕ) where
 
 -- ---- a policy's slot
 
-direction-word : (d : ℕ) → (d ≡ 0 → ⊥) → d ≤ 2 → d ≡ directionNumber (directionOf d)
+-- a direction's number is read back
+pub direction-word : (d : ℕ) → (d ≡ 0 → ⊥) → d ≤ 2 → d ≡ directionNumber (directionOf d)
 unfolding directionOf
 direction-word d n h = go (eqb d 1) refl
   where
@@ -205,12 +206,14 @@ module _ (m : List ℕ) (q : ℕ) where
   entry-words n e zero h =
       ap (λ i. wordAt m i) (add-zero (policyStart q)) ∙ direction-word (wordAt m (policyStart q)) n (leb-true _ _ (and-left _ _ e))
   entry-words n e (suc k) h =
-      let s = policyStart q in
-      let a : s + suc k ≡ s + selectOffset + k = omega arith in
-      by-ltb (λ t. wordAt m (s + suc k) ≡ cond t (partWord (partIn m (s + selectOffset)) k) (partWord (partIn m (s + allowOffset)) (k - 5))) k 5
-      (λ l. ap (λ i. wordAt m i) a ∙ part-words m (s + selectOffset) 4 (and-left _ _ (and-right _ _ e)) k (omega arith))
-      (λ l. let b : s + suc k ≡ s + allowOffset + (k - 5) = omega arith in
-      ap (λ i. wordAt m i) b ∙ part-words m (s + allowOffset) 4 (and-right _ _ (and-right _ _ e)) (k - 5) (omega arith))
+      let i = k / partSize in
+      let a : policyStart q + suc k ≡ policyStart q + partOffset i + k % partSize = omega arith in
+      ap (λ i. wordAt m i) a ∙ part-at i (omega arith) (k % partSize) (omega arith)
+    where
+      part-at : (i : ℕ) → i < 2 → Words m (policyStart q + partOffset i) partSize (partWord (getD (partsOf (policyAt m q)) i []))
+      part-at zero l = part-words m (policyStart q + selectOffset) 4 (and-left _ _ (and-right _ _ e))
+      part-at (suc zero) l = part-words m (policyStart q + allowOffset) 4 (and-right _ _ (and-right _ _ e))
+      part-at (suc (suc i)) l = absurd (omega arith)
 
   entry-valid : entryOk ≡ true → (validLabels 4 (policyAt m q .select) && validLabels 4 (policyAt m q .allow)) ≡ true
   unfolding policyAt
@@ -226,18 +229,8 @@ module _ (m : List ℕ) (q : ℕ) where
       let d = direction-small (policyAt m q .direction) in
       let b = both (validLabels 4 (partIn m (s + selectOffset))) (validLabels 4 (partIn m (s + allowOffset))) v in
       and-passes _ _ (le-leb (wordAt m s) 2 (omega arith))
-      (and-passes _ _ (part-passes m (s + selectOffset) 4 (b .0) (select-words w)) (part-passes m (s + allowOffset) 4 (b .1) (allow-words w)))
-    where
-      select-words : Words m (policyStart q) policyWords (policyWord (some (policyAt m q))) → Words m (policyStart q + selectOffset) (4 + 1) (partWord (partIn m (policyStart q + selectOffset)))
-      select-words w j h =
-          let e : policyStart q + selectOffset + j ≡ policyStart q + suc j = omega arith in
-          ap (λ k. wordAt m k) e ∙ w (suc j) (omega arith) ∙ (rw (lt-ltb j 5 (omega arith)))
-
-      allow-words : Words m (policyStart q) policyWords (policyWord (some (policyAt m q))) → Words m (policyStart q + allowOffset) (4 + 1) (partWord (partIn m (policyStart q + allowOffset)))
-      allow-words w j h =
-          let e : policyStart q + allowOffset + j ≡ policyStart q + suc (5 + j) = omega arith in
-          let i : 5 + j - 5 ≡ j = omega arith in
-          ap (λ k. wordAt m k) e ∙ w (suc (5 + j)) (omega arith) ∙ (rw (le-ltb (5 + j) 5 (omega arith), i))
+      (and-passes _ _ (part-passes m (s + selectOffset) 4 (b .0) (policy-part-words m q (policyAt m q) w 0 (omega arith)))
+      (part-passes m (s + allowOffset) 4 (b .1) (policy-part-words m q (policyAt m q) w 1 (omega arith))))
 
 module _ (s : Settings) (m : List ℕ) (q : ℕ) where
   pub policy-holds : policyOk m q ≡ true

@@ -11,8 +11,8 @@ use Rattle.model.specs.Registry.{Registry}
 use Rattle.model.proofs.Lists.{both}
 use Rattle.store.specs.Layout.{memoryWords, Whole}
 use Rattle.store.specs.Contents.{Holds}
-use Rattle.formed.specs.Registry.{registryIn, contentsOf, image, acceptable, Acceptable, sameWords, wellFormed}
-use Rattle.formed.proofs.Back.{image-size, image-contents, registry-image}
+use Rattle.formed.specs.Registry.{registryIn, contentsOf, image, acceptable, Acceptable, EntriesFormed, sameWords, wellFormed}
+use Rattle.formed.proofs.Back.{entries-written, image-size, image-contents, registry-image}
 use Rattle.formed.proofs.Acceptable.{acceptable-test, test-acceptable}
 
 words-same : (a b : List ℕ) → sameWords a b ≡ true → a ≡ b
@@ -60,9 +60,13 @@ module _ (m : List ℕ) where
   pub formed-exactly : (wellFormed m ≡ true) ↔ FormedMemory m
   formed-exactly = (formed-memory, memory-formed)
 
-  pub formed-holds : wellFormed m ≡ true → Holds m (contentsOf (registryIn m))
-  formed-holds e =
-      subst (λ (l : List ℕ). Holds l (contentsOf (registryIn m))) (formed-memory e .canonical) (image-contents (registryIn m))
+  -- the words before the rows say the entries
+  pub formed-entries : wellFormed m ≡ true → EntriesFormed m
+  unfolding registryIn
+  formed-entries e =
+      let f = formed-memory e in
+      entries-written (registryIn m) (f .acceptable .entries) m
+      (subst (λ (l : List ℕ). Holds l (contentsOf (registryIn m))) (f .canonical) (image-contents (registryIn m)))
 
 -- the memory of an acceptable registry is well formed
 pub acceptable-image : (r : Registry) → Acceptable r → wellFormed (image r) ≡ true

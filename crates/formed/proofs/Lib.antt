@@ -7,9 +7,9 @@ pub mod Back
 pub mod Acceptable
 pub mod Formed
 pub mod Reading
+pub mod Placed
 pub mod Runs
 pub mod Standing
 pub mod Rows
 pub mod EntryTests
 pub mod TestsFormed
-pub mod LabelLaws

@@ -33,7 +33,7 @@ pub label-word : (w : ℕ) → labelWord (labelIn w) ≡ w
 unfolding labelWord labelIn
 label-word w = omega arith
 
-pub label-back : (l : Label) → inRange l ≡ true → labelIn (labelWord l) ≡ l
+label-back : (l : Label) → inRange l ≡ true → labelIn (labelWord l) ≡ l
 unfolding labelIn labelWord
 label-back l e =
     let h = label-bounds l e in

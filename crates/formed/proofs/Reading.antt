@@ -1,5 +1,5 @@
--- What a memory says at each slot, and what the words of a well-formed memory can be.
-use mathlib.Core.Path.{_≡_, refl, ap, _∙_, subst}
+-- What a memory says at each slot, and what the words of a memory that says entries can be.
+use mathlib.Core.Path.{_≡_, refl, sym, ap, _∙_}
 use mathlib.Core.Bool.{true, not, _&&_, cond}
 use mathlib.Core.List.{List}
 use mathlib.Core.Option.{Option, none, some}
@@ -11,16 +11,16 @@ use borrow.Author.Tests.{lt-ltb, eq-eqb, ne-eqb}
 use Rattle.block.specs.Entry.{Container, Policy, Settings}
 use Rattle.model.specs.Table.{on, at, stands}
 use Rattle.model.specs.Model.{containerSlots, policySlots}
-use Rattle.store.specs.Layout.{containerWords, policyWords, selectOffset, allowOffset, memoryWords, rowsStart, containerStart, policyStart, selectedRow, allowedRow, wordAt, rowBit}
-use Rattle.store.specs.Contents.{tab}
+use Rattle.store.specs.Layout.{containerWords, policyWords, selectOffset, allowOffset, memoryWords, rowsStart, containerStart, policyStart, rowCount, selectedRow, allowedRow, wordAt, rowBit}
+use Rattle.store.specs.Contents.{Holds, tab}
 use Rattle.store.proofs.Cases.{by-ltb, by-eqb}
 use Rattle.store.proofs.Image.{getD-tab, tab-beyond}
 use Rattle.formed.specs.Words.{containerWord, policyWord, partWord, settingsIn, partIn, containerIn, policyAt, policyIn}
-use Rattle.formed.specs.Registry.{modelIn, bitWithin, bitsIn, registryIn, validContainer, validPolicy, wellFormed}
+use Rattle.formed.specs.Registry.{modelIn, bitWithin, bitsIn, registryIn, storedBit, contentsOf, validContainer, validPolicy, EntriesFormed}
 use Rattle.formed.proofs.Parts.{labels-few}
 use Rattle.formed.proofs.Slots.{Words, valid-container, valid-policy, direction-small, first-word}
-use Rattle.formed.proofs.Back.{SettingsBounds, settings-bounds, container-words, policy-words, image-fits, entry-small, entry-word}
-use Rattle.formed.proofs.Formed.{formed-memory, formed-holds}
+use Rattle.formed.proofs.StoredLaws.{by-table}
+use Rattle.formed.proofs.Back.{SettingsBounds, settings-bounds, container-words, policy-words, entry-small}
 
 -- ---- any memory: slots
 
@@ -95,7 +95,16 @@ module _ (m : List ℕ) where
   unfolding bitsIn
   allowed-in q c hq hc = bit-within policySlots q (allowedRow q) c hq hc
 
--- ---- a well-formed memory
+-- ---- a memory whose words say entries: of its bits nothing is asked
+
+-- the bits of a memory are always those of what it says
+row-stored : (m : List ℕ) (x y : ℕ) → x < rowCount → y < containerSlots → rowBit m x y ≡ storedBit (bitsIn m) x y
+row-stored m x y hx hy =
+    by-table (λ z b. rowBit m z y ≡ b) (bitsIn m) y (λ a l. sym (matrix-in m a y l hy)) (λ q l. sym (selected-in m q y l hy)) (λ q l. sym (allowed-in m q y l hy)) x hx
+
+pub entries-hold : (m : List ℕ) → EntriesFormed m → Holds m (contentsOf (registryIn m))
+unfolding contentsOf registryIn
+entries-hold m ok = record { whole = ok .whole; words = ok .words; bits = row-stored m }
 
 -- the heads of valid slots
 container-head : (s : Settings) (o : Option Container) → validContainer s o ≡ true → containerWord o 0 ≤ containerWords
@@ -110,61 +119,56 @@ policy-heads s (some p) v =
     let f = valid-policy s p v in
     (direction-small (p .direction) .1, omega (arith, labels-few 4 (p .select) (f .select)), omega (arith, labels-few 4 (p .allow) (f .allow)))
 
-module _ (m : List ℕ) (ok : wellFormed m ≡ true) where
+module _ (m : List ℕ) (ok : EntriesFormed m) where
   pub formed-whole : length m ≡ memoryWords
-  formed-whole = formed-memory m ok .whole
+  formed-whole = ok .whole
+
+  held-container : (c : ℕ) → c < containerSlots → Words m (containerStart c) containerWords (containerWord (at (modelIn m .containers) c))
+  unfolding registryIn
+  held-container c h = container-words (registryIn m) m (entries-hold m ok) c h
 
   -- the words of each slot are those of what it holds
   pub formed-container : (c : ℕ) → c < containerSlots → Words m (containerStart c) containerWords (containerWord (containerIn m c))
+  formed-container c h k l = held-container c h k l ∙ ap (λ o. containerWord o k) (container-slot m c h)
+
+  held-policy : (q : ℕ) → q < policySlots → Words m (policyStart q) policyWords (policyWord (at (modelIn m .policies) q))
   unfolding registryIn
-  formed-container c h k l =
-      container-words (registryIn m) m (formed-holds m ok) c h k l ∙ ap (λ o. containerWord o k) (container-slot m c h)
+  held-policy q h = policy-words (registryIn m) m (entries-hold m ok) q h
 
   pub formed-policy : (q : ℕ) → q < policySlots → Words m (policyStart q) policyWords (policyWord (policyIn m q))
-  unfolding registryIn
-  formed-policy q h k l =
-      policy-words (registryIn m) m (formed-holds m ok) q h k l ∙ ap (λ o. policyWord o k) (policy-slot m q h)
+  formed-policy q h k l = held-policy q h k l ∙ ap (λ o. policyWord o k) (policy-slot m q h)
 
   -- ---- bounds for code that reads them
 
   pub formed-settings : SettingsBounds (settingsIn m)
-  unfolding registryIn modelIn
-  formed-settings = settings-bounds (settingsIn m) (formed-memory m ok .acceptable .settings)
+  unfolding modelIn
+  formed-settings = settings-bounds (settingsIn m) (ok .entries .settings)
 
   -- the head of a container is at most one more than its limit
   pub formed-head : (c : ℕ) → c < containerSlots → wordAt m (containerStart c) ≤ containerWords
   formed-head c h =
-      let r = registryIn m in
-      let o = at (r .model .containers) c in
+      let o = at (modelIn m .containers) c in
       omega (
         arith,
-        first-word m (containerStart c) 8 (containerWord o) (container-words r m (formed-holds m ok) c h),
-        container-head (r .model .settings) o (formed-memory m ok .acceptable .container c),
+        first-word m (containerStart c) 8 (containerWord o) (held-container c h),
+        container-head (modelIn m .settings) o (ok .entries .container c),
       )
 
   module _ (q : ℕ) (h : q < policySlots) where
     abbrev held : Option Policy
-    held = at (registryIn m .model .policies) q
-
-    held-words : Words m (policyStart q) policyWords (policyWord held)
-    held-words = policy-words (registryIn m) m (formed-holds m ok) q h
+    held = at (modelIn m .policies) q
 
     held-heads : (policyWord held 0 ≤ 2) × (policyWord held selectOffset ≤ 5) × (policyWord held allowOffset ≤ 5)
-    held-heads = policy-heads (registryIn m .model .settings) held (formed-memory m ok .acceptable .policy q)
+    held-heads = policy-heads (modelIn m .settings) held (ok .entries .policy q)
 
     -- a policy's direction is 0, 1 or 2
     pub formed-direction : wordAt m (policyStart q) ≤ 2
-    formed-direction = omega (arith, first-word m (policyStart q) 10 (policyWord held) held-words, held-heads .0)
+    formed-direction = omega (arith, first-word m (policyStart q) 10 (policyWord held) (held-policy q h), held-heads .0)
 
     -- the heads of its parts are at most 5
     pub formed-parts : (wordAt m (policyStart q + selectOffset) ≤ 5) × (wordAt m (policyStart q + allowOffset) ≤ 5)
-    formed-parts = (omega (arith, held-words selectOffset (omega arith), held-heads .1), omega (arith, held-words allowOffset (omega arith), held-heads .2))
+    formed-parts = (omega (arith, held-policy q h selectOffset (omega arith), held-heads .1), omega (arith, held-policy q h allowOffset (omega arith), held-heads .2))
 
-  -- a word before the rows is small, and every word fits
+  -- a word before the rows is small
   pub formed-small : (k : ℕ) → k < rowsStart → wordAt m k ≤ 2 ^ 23
-  formed-small k h = omega (arith, entry-word (registryIn m) m (formed-holds m ok) k h, entry-small (registryIn m) (formed-memory m ok .acceptable) k)
-
-  pub formed-fits : (k : ℕ) → wordAt m k < 2 ^ 64
-  formed-fits k =
-      let f = formed-memory m ok in
-      subst (λ (l : List ℕ). wordAt l k < 2 ^ 64) (f .canonical) (image-fits (registryIn m) (f .acceptable) k)
+  formed-small k h = omega (arith, ok .words k h, entry-small (modelIn m) (ok .entries) k)

@@ -1,20 +1,19 @@
 -- Slots: what is read from a slot's words, and how large the words are.
-use mathlib.Core.Path.{_≡_, sym, ap, _∙_}
-use mathlib.Core.Bool.{true, cond}
-use mathlib.Core.List.{List}
+use mathlib.Core.Path.{_≡_, refl, sym, ap, ap₂, _∙_}
+use mathlib.Core.Bool.{true}
+use mathlib.Core.List.{List, []}
 use mathlib.Core.Option.{Option, none, some}
-use Prim.Native.Nat.{ℕ, zero, suc, _+_, _-_, _^_, _<_, _≤_}
+use Prim.Native.Nat.{ℕ, zero, suc, _+_, _*_, _/_, _%_, _^_, _<_, _≤_}
 use native.Mathlib.Nat.{add-zero}
 use native.Mathlib.Omega.{arith}
-use lib.ListN.{length}
-use borrow.Author.Tests.{lt-ltb, le-ltb, eq-eqb, ne-eqb}
-use Rattle.block.specs.Entry.{Container, Direction, ingress, egress, Policy, Settings, container, policy}
+use lib.ListN.{length, getD}
+use borrow.Author.Tests.{eq-eqb, ne-eqb}
+use Rattle.block.specs.Entry.{Label, Container, Direction, ingress, egress, Policy, Settings, container, policy}
 use Rattle.block.specs.Reader.{directionOf}
 use Rattle.block.specs.Written.{directionNumber, validLabels, validEntry}
 use Rattle.block.proofs.Written.{direction-back}
-use Rattle.store.specs.Layout.{containerWords, policyWords, selectOffset, allowOffset, containerStart, policyStart, wordAt}
-use Rattle.store.proofs.Cases.{by-ltb}
-use Rattle.formed.specs.Words.{partWord, containerWord, policyWord, partIn, containerIn, policyAt, policyIn}
+use Rattle.store.specs.Layout.{containerWords, policyWords, partSize, partOffset, selectOffset, allowOffset, containerStart, policyStart, wordAt}
+use Rattle.formed.specs.Words.{partWord, partsOf, containerWord, policyWord, partIn, containerIn, policyAt, policyIn}
 use Rattle.formed.specs.Registry.{validContainer, validPolicy}
 use Rattle.model.proofs.Lists.{both}
 use Rattle.formed.proofs.Parts.{part-back, part-small}
@@ -60,27 +59,29 @@ container-small s (some ls) v k = part-small 8 ls (valid-container s ls v) (omeg
 
 -- ---- policies
 
+-- word j of a policy's part i
+pub policy-part-word : (p : Policy) (i j : ℕ) → j < partSize → policyWord (some p) (partOffset i + j) ≡ partWord (getD (partsOf p) i []) j
+policy-part-word p i j h =
+    let e : partOffset i + j ≡ suc (partSize * i + j) = omega arith in
+    let a : (partSize * i + j) / partSize ≡ i = omega arith in
+    let b : (partSize * i + j) % partSize ≡ j = omega arith in
+    ap (policyWord (some p)) e ∙ ap₂ (λ (x y : ℕ). partWord (getD (partsOf p) x []) y) a b
+
 module _ (m : List ℕ) (q : ℕ) (p : Policy) (w : Words m (policyStart q) policyWords (policyWord (some p))) where
   direction-word : wordAt m (policyStart q) ≡ directionNumber (p .direction)
   direction-word = first-word m (policyStart q) 10 (policyWord (some p)) w
 
-  select-words : Words m (policyStart q + selectOffset) 5 (partWord (p .select))
-  select-words j h =
-      let e : policyStart q + selectOffset + j ≡ policyStart q + suc j = omega arith in
-      ap (λ k. wordAt m k) e ∙ w (suc j) (omega arith) ∙ (rw (lt-ltb j 5 (omega arith)))
-
-  allow-words : Words m (policyStart q + allowOffset) 5 (partWord (p .allow))
-  allow-words j h =
-      let e : policyStart q + allowOffset + j ≡ policyStart q + suc (5 + j) = omega arith in
-      let i : 5 + j - 5 ≡ j = omega arith in
-      ap (λ k. wordAt m k) e ∙ w (suc (5 + j)) (omega arith) ∙ (rw (le-ltb (5 + j) 5 (omega arith), i))
+  pub policy-part-words : (i : ℕ) → i < 2 → Words m (policyStart q + partOffset i) partSize (partWord (getD (partsOf p) i []))
+  policy-part-words i l j h =
+      let e : policyStart q + partOffset i + j ≡ policyStart q + (partOffset i + j) = omega arith in
+      ap (λ k. wordAt m k) e ∙ w (partOffset i + j) (omega arith) ∙ policy-part-word p i j h
 
   policy-at-back : PolicyParts p → policyAt m q ≡ p
   unfolding policyAt
   policy-at-back f =
       let d : directionOf (wordAt m (policyStart q)) ≡ p .direction = ap directionOf direction-word ∙ direction-back (p .direction) in
-      let s : partIn m (policyStart q + selectOffset) ≡ p .select = part-back 4 (p .select) (f .select) m (policyStart q + selectOffset) select-words in
-      let a : partIn m (policyStart q + allowOffset) ≡ p .allow = part-back 4 (p .allow) (f .allow) m (policyStart q + allowOffset) allow-words in
+      let s : partIn m (policyStart q + selectOffset) ≡ p .select = part-back 4 (p .select) (f .select) m (policyStart q + selectOffset) (policy-part-words 0 (omega arith)) in
+      let a : partIn m (policyStart q + allowOffset) ≡ p .allow = part-back 4 (p .allow) (f .allow) m (policyStart q + allowOffset) (policy-part-words 1 (omega arith)) in
       λ i. record { direction = d i; select = s i; allow = a i }
 
   policy-stands : wordAt m (policyStart q) ≡ 0 → ⊥
@@ -93,11 +94,17 @@ module _ (s : Settings) (m : List ℕ) (q : ℕ) where
   policy-back (some p) v w =
       rw (ne-eqb (wordAt m (policyStart q)) 0 (policy-stands m q p w)) (ap some (policy-at-back m q p w (valid-policy s p v)))
 
+-- what holds of each part of a policy, and of no labels, holds at every place
+by-policy-part : (P : List Label → Type 0) (p : Policy) → P [] → P (p .select) → P (p .allow) → (i : ℕ) → P (getD (partsOf p) i [])
+by-policy-part P p n s a zero = s
+by-policy-part P p n s a (suc zero) = a
+by-policy-part P p n s a (suc (suc i)) = n
+
 pub policy-small : (s : Settings) (o : Option Policy) → validPolicy s o ≡ true → (k : ℕ) → policyWord o k ≤ 2 ^ 23
+unfolding validLabels
 policy-small s none v k = omega arith
 policy-small s (some p) v zero = let d = direction-small (p .direction) in omega arith
 policy-small s (some p) v (suc k) =
     let f = valid-policy s p v in
-    by-ltb (λ t. cond t (partWord (p .select) k) (partWord (p .allow) (k - 5)) ≤ 2 ^ 23) k 5
-    (λ h. part-small 4 (p .select) (f .select) (omega arith) k)
-    (λ h. part-small 4 (p .allow) (f .allow) (omega arith) (k - 5))
+    let small : (ls : List Label) → validLabels 4 ls ≡ true → partWord ls (k % partSize) ≤ 2 ^ 23 = λ ls e. part-small 4 ls e (omega arith) (k % partSize) in
+    by-policy-part (λ ls. partWord ls (k % partSize) ≤ 2 ^ 23) p (small [] refl) (small (p .select) (f .select)) (small (p .allow) (f .allow)) (k / partSize)

@@ -14,26 +14,19 @@ use Rattle.block.specs.Written.{validSettings}
 use Rattle.model.specs.Table.{at, stands}
 use Rattle.model.specs.Model.{containerSlots, policySlots}
 use Rattle.model.proofs.Lists.{denied}
-use Rattle.store.specs.Layout.{settingsSize, containersStart, containerWords, policiesStart, policyWords, rowsStart, rowCount, containerStart, policyStart, selectedRow, allowedRow, Whole, wordAt, rowBit}
-use Rattle.store.specs.Contents.{Holds}
+use Rattle.store.specs.Layout.{settingsSize, containersStart, containerWords, policiesStart, policyWords, rowsStart, containerStart, policyStart, selectedRow, allowedRow, Whole, wordAt, rowBit}
 use Rattle.store.proofs.Cases.{by-ltb}
 use Rattle.formed.specs.Words.{settingsWord, containerWord, policyWord, settingsIn}
-use Rattle.formed.specs.Registry.{modelIn, bitsIn, registryIn, entryWord, storedBit, contentsOf, validContainer, validPolicy, acceptable, Acceptable, wellFormed}
+use Rattle.formed.specs.Registry.{modelIn, bitsIn, registryIn, entryWord, validContainer, validPolicy, acceptable, ValidEntries, Acceptable, EntriesFormed, wellFormed}
 use Rattle.formed.specs.Tests.{containerOk, policyOk, containersOk, policiesOk, rowOk, matrixRowOk, setRowsOk, matrixOk, setsOk, tests}
-use Rattle.formed.proofs.StoredLaws.{by-part, by-table}
+use Rattle.formed.proofs.StoredLaws.{by-part}
 use Rattle.formed.proofs.Back.{image-written}
 use Rattle.formed.proofs.Acceptable.{containers-size, policies-size, registry-in-tables}
-use Rattle.formed.proofs.Formed.{formed-memory, memory-formed}
-use Rattle.formed.proofs.Reading.{container-slot, container-beyond, policy-slot, policy-beyond, container-stands, policy-stands, matrix-in, selected-in, allowed-in, formed-container, formed-policy}
+use Rattle.formed.proofs.Formed.{formed-memory, memory-formed, formed-entries}
+use Rattle.formed.proofs.Reading.{container-slot, container-beyond, policy-slot, policy-beyond, container-stands, policy-stands, matrix-in, selected-in, allowed-in, entries-hold, formed-container, formed-policy}
 use Rattle.formed.proofs.Runs.{and-left, and-right, and-passes, between-at, between-all}
 use Rattle.formed.proofs.Rows.{row-holds, row-passes}
 use Rattle.formed.proofs.EntryTests.{container-holds, container-passes, policy-holds, policy-passes}
-
--- ---- the bits of a memory are always those of what it says
-
-row-stored : (m : List ℕ) (x y : ℕ) → x < rowCount → y < containerSlots → rowBit m x y ≡ storedBit (bitsIn m) x y
-row-stored m x y hx hy =
-    by-table (λ z b. rowBit m z y ≡ b) (bitsIn m) y (λ a l. sym (matrix-in m a y l hy)) (λ q l. sym (selected-in m q y l hy)) (λ q l. sym (allowed-in m q y l hy)) x hx
 
 -- ---- rows: one law for the matrix and both sets
 
@@ -95,17 +88,23 @@ module _ (m : List ℕ) (ok : tests m ≡ true) where
       (λ l. ap (validPolicy x) (policy-slot m q l) ∙ policy-holds x m q (policy-ok q l) .0)
       (λ l. ap (validPolicy x) (policy-beyond m q l))
 
+  entries-valid : ValidEntries (modelIn m)
+  unfolding registryIn
+  entries-valid = record {
+    containers = containers-size m;
+    policies = policies-size m;
+    settings = settings-ok;
+    container = container-valid (modelIn m .settings);
+    policy = policy-valid (modelIn m .settings);
+  }
+
   tests-acceptable : Acceptable (registryIn m)
   unfolding registryIn
   tests-acceptable =
       let b = registry-in-tables m in
       let p = stands (modelIn m .policies) in
       record {
-        containers = containers-size m;
-        policies = policies-size m;
-        settings = settings-ok;
-        container = container-valid (modelIn m .settings);
-        policy = policy-valid (modelIn m .settings);
+        entries = entries-valid;
         matrix = λ i j t. bits-stand m containerSlots containerStart s (container-stands m) (λ x. x) (bitsIn m .matrix) (matrix-in m) s matrix-ok i j (b .matrix i j t) t;
         selected = λ i j t. bits-stand m policySlots policyStart p (policy-stands m) selectedRow (bitsIn m .selected) (selected-in m) s (λ q h. and-left _ _ (sets-ok q h)) i j (b .selected i j t) t;
         allowed = λ i j t. bits-stand m policySlots policyStart p (policy-stands m) allowedRow (bitsIn m .allowed) (allowed-in m) s (λ q h. and-right _ _ (sets-ok q h)) i j (b .allowed i j t) t;
@@ -137,9 +136,8 @@ module _ (m : List ℕ) (ok : tests m ≡ true) where
       (λ l. let e : k ≡ policyStart q + (k - policiesStart) % policyWords = omega arith in
       ap (λ i. wordAt m i) e ∙ policy-word q ((k - policiesStart) % policyWords) (omega arith) (omega arith))
 
-  tests-hold : Whole m → Holds m (contentsOf (registryIn m))
-  unfolding contentsOf registryIn
-  tests-hold w = record { whole = w; words = entry-word; bits = row-stored m }
+  tests-entries : Whole m → EntriesFormed m
+  tests-entries w = record { whole = w; entries = entries-valid; words = entry-word }
 
 -- ---- to the tests
 
@@ -151,17 +149,17 @@ module _ (m : List ℕ) (e : wellFormed m ≡ true) where
   unfolding registryIn
   container-pass c l =
       let s = registryIn m .model .settings in
-      container-passes s m c (ap (validContainer s) (sym (container-slot m c l)) ∙ accepted .container c) (formed-container m e c l)
+      container-passes s m c (ap (validContainer s) (sym (container-slot m c l)) ∙ accepted .entries .container c) (formed-container m (formed-entries m e) c l)
 
   policy-pass : (q : ℕ) → q < policySlots → policyOk m q ≡ true
   unfolding registryIn
   policy-pass q l =
       let s = registryIn m .model .settings in
-      policy-passes s m q (ap (validPolicy s) (sym (policy-slot m q l)) ∙ accepted .policy q) (formed-policy m e q l)
+      policy-passes s m q (ap (validPolicy s) (sym (policy-slot m q l)) ∙ accepted .entries .policy q) (formed-policy m (formed-entries m e) q l)
 
   settings-pass : validSettings (settingsIn m) ≡ true
   unfolding registryIn modelIn
-  settings-pass = accepted .settings
+  settings-pass = accepted .entries .settings
 
   tests-pass : tests m ≡ true
   unfolding tests containersOk policiesOk matrixOk setsOk registryIn
@@ -185,7 +183,7 @@ tests-formed m w fit =
     (λ t. memory-formed m (record {
       whole = w;
       acceptable = tests-acceptable m t;
-      canonical = sym (image-written (registryIn m) m (tests-hold m t w) fit);
+      canonical = sym (image-written (registryIn m) m (entries-hold m (tests-entries m t w)) fit);
     }))
     (λ e. tests-pass m e)
 

@@ -1,5 +1,5 @@
 -- What the contracts of `formed` and of those that change a memory cite.
 pub mod Words
 pub mod Registry
+pub mod Placed
 pub mod Tests
-pub mod Labels

@@ -3,7 +3,7 @@ use mathlib.Core.Path.{_≡_}
 use mathlib.Core.Bool.{Bool, true, false, not, _&&_, _||_, cond}
 use mathlib.Core.List.{List, [], _∷_}
 use mathlib.Core.Option.{Option, none, some}
-use Prim.Native.Nat.{ℕ, _-_, _/_, _%_}
+use Prim.Native.Nat.{ℕ, _-_, _/_, _%_, _<_}
 use lib.Dec.{eqb, ltb}
 use lib.ListN.{length}
 use Rattle.block.specs.Entry.{Container, Policy, Settings, container, policy}
@@ -11,7 +11,7 @@ use Rattle.block.specs.Written.{validSettings, validEntry}
 use Rattle.model.specs.Table.{all, at, stands, below}
 use Rattle.model.specs.Model.{containerSlots, policySlots, Model, Bits}
 use Rattle.model.specs.Registry.{Registry}
-use Rattle.store.specs.Layout.{memoryWords, containersStart, containerWords, policiesStart, policyWords, matrixBand, selectedBand, allowedBand, bandIndex, inBand, selectedRow, allowedRow, rowBit}
+use Rattle.store.specs.Layout.{memoryWords, rowsStart, Whole, containersStart, containerWords, policiesStart, policyWords, matrixBand, selectedBand, allowedBand, bandIndex, inBand, selectedRow, allowedRow, wordAt, rowBit}
 use Rattle.store.specs.Contents.{Contents, tab, imageOf}
 use Rattle.formed.specs.Words.{settingsWord, containerWord, policyWord, settingsIn, containerIn, policyIn}
 
@@ -96,16 +96,27 @@ acceptable r =
     && (ofStanding policySlots containerSlots p c (r .bits .selected)
     && ofStanding policySlots containerSlots p c (r .bits .allowed)))))
 
--- The same as a statement, over all numbers: no bit beyond the tables either.
+-- The same as statements, over all numbers. Of the entries: tables of their sizes, and what open and admit would accept.
+pub record ValidEntries (m : Model) : Type 0 where
+  pub containers : length (m .containers) ≡ containerSlots
+  pub policies : length (m .policies) ≡ policySlots
+  pub settings : validSettings (m .settings) ≡ true
+  pub container : (c : ℕ) → validContainer (m .settings) (at (m .containers) c) ≡ true
+  pub policy : (q : ℕ) → validPolicy (m .settings) (at (m .policies) q) ≡ true
+
+-- Of the registry: no bit beyond the tables either.
 pub record Acceptable (r : Registry) : Type 0 where
-  pub containers : length (r .model .containers) ≡ containerSlots
-  pub policies : length (r .model .policies) ≡ policySlots
-  pub settings : validSettings (r .model .settings) ≡ true
-  pub container : (c : ℕ) → validContainer (r .model .settings) (at (r .model .containers) c) ≡ true
-  pub policy : (q : ℕ) → validPolicy (r .model .settings) (at (r .model .policies) q) ≡ true
+  pub entries : ValidEntries (r .model)
   pub matrix : (a b : ℕ) → r .bits .matrix a b ≡ true → (stands (r .model .containers) a && stands (r .model .containers) b) ≡ true
   pub selected : (q c : ℕ) → r .bits .selected q c ≡ true → (stands (r .model .policies) q && stands (r .model .containers) c) ≡ true
   pub allowed : (q c : ℕ) → r .bits .allowed q c ≡ true → (stands (r .model .policies) q && stands (r .model .containers) c) ≡ true
+
+-- The words of settings and slots are those of valid entries. Nothing is asked of the rows: what reads entries needs no more, also in the
+-- middle of a change, when the bits do not agree with the entries yet.
+pub record EntriesFormed (m : List ℕ) : Type 0 where
+  pub whole : Whole m
+  pub entries : ValidEntries (modelIn m)
+  pub words : (k : ℕ) → k < rowsStart → wordAt m k ≡ entryWord (modelIn m) k
 
 abbrev pub sameWords : List ℕ → List ℕ → Bool
 sameWords [] [] = true

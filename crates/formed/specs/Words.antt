@@ -4,20 +4,18 @@
 use mathlib.Core.Bool.{cond}
 use mathlib.Core.List.{List, [], _∷_, map}
 use mathlib.Core.Option.{Option, none, some}
-use Prim.Native.Nat.{ℕ, zero, suc, _+_, _-_, _/_, _%_}
-use lib.Dec.{eqb, ltb}
+use Prim.Native.Nat.{ℕ, zero, suc, _+_, _*_, _-_, _/_, _%_}
+use lib.Dec.{eqb}
 use lib.ListN.{length, getD}
 use Rattle.block.specs.Entry.{Label, Container, Policy, Settings}
 use Rattle.block.specs.Reader.{directionOf}
-use Rattle.block.specs.Reading.{word}
 use Rattle.block.specs.Written.{directionNumber}
-use Rattle.store.specs.Layout.{selectOffset, allowOffset, containerStart, policyStart, wordAt}
+use Rattle.store.specs.Layout.{partSize, selectOffset, allowOffset, containerStart, policyStart, wordAt}
 
 -- ---- from entries to words
 
--- as the reader of blocks hands it over
 unfoldable pub labelWord : Label → ℕ
-labelWord l = word l
+labelWord l = l .key * 65536 + l .value
 
 -- word k of a part
 unfoldable pub partWord : List Label → ℕ → ℕ
@@ -30,10 +28,14 @@ abbrev pub containerWord : Option Container → ℕ → ℕ
 containerWord none k = 0
 containerWord (some ls) k = partWord ls k
 
+-- the parts of a policy, in the order of its slot
+abbrev pub partsOf : Policy → List (List Label)
+partsOf p = p .select ∷ p .allow ∷ []
+
 abbrev pub policyWord : Option Policy → ℕ → ℕ
 policyWord none k = 0
 policyWord (some p) zero = directionNumber (p .direction)
-policyWord (some p) (suc k) = cond (ltb k 5) (partWord (p .select) k) (partWord (p .allow) (k - 5))
+policyWord (some p) (suc k) = partWord (getD (partsOf p) (k / partSize) []) (k % partSize)
 
 -- ---- from words to entries
 

@@ -1,11 +1,9 @@
 // The containers put into the rows of their labels.
-ghost use mathlib.Core.Path.{_≡_};
-ghost use mathlib.Core.Bool.{true};
 ghost use Prim.Native.Nat.{_<_};
 ghost use lib.Dec.{eqb};
 ghost use Rattle.model.specs.Rules.{carries};
 ghost use Rattle.formed.specs.Words.{labelIn, partIn};
-ghost use Rattle.formed.specs.Registry.{wellFormed};
+ghost use Rattle.formed.specs.Registry.{EntriesFormed};
 ghost use Rattle.entries.specs.Entries.{PartWithin};
 ghost use Rattle.label_table.specs.LabelTable.{places};
 ghost use Rattle.label_table.specs.Rows.{Shaped, Empty};
@@ -38,7 +36,7 @@ fn mark_part(rows: &mut [[u64; 4]; 1024], labels: &[u64; 1024], memory: &[u64], 
 
 // Every container in the rows of its labels, where the rows are empty before.
 pub fn mark_all(rows: &mut [[u64; 4]; 1024], labels: &[u64; 1024], memory: &[u64])
-    requires { ⌜ (wellFormed (now memory) ≡ true) × Empty places (now rows) ⌝ }
+    requires { ⌜ EntriesFormed (now memory) × Empty places (now rows) ⌝ }
     ensures { λ u. ⌜ LabelRows (now (memory .entry)) (now (labels .entry)) 256 (now (rows .exit)) ⌝ }
 {
     let mut c = 0;

@@ -1,8 +1,7 @@
 // The containers that match a part, by the rows of its labels. Where a label was not found, the candidates that are left are tried.
 ghost use mathlib.Core.Path.{_≡_};
-ghost use mathlib.Core.Bool.{true};
 ghost use Rattle.bitrow.specs.Bit.{bitAt};
-ghost use Rattle.formed.specs.Registry.{wellFormed};
+ghost use Rattle.formed.specs.Registry.{EntriesFormed};
 ghost use Rattle.entries.specs.Entries.{PartOfLabels, trialSet};
 ghost use Rattle.label_table.specs.LabelRows.{LabelRows};
 
@@ -14,7 +13,7 @@ pub fn matching(
     part: usize,
     candidates: [u64; 4],
 ) -> [u64; 4]
-    requires { ⌜ (wellFormed (now memory) ≡ true) × PartOfLabels (now memory) part × LabelRows (now memory) (now labels) 256 (now rows) ⌝ }
+    requires { ⌜ EntriesFormed (now memory) × PartOfLabels (now memory) part × LabelRows (now memory) (now labels) 256 (now rows) ⌝ }
     ensures { λ r. ⌜ bitAt r ≡ trialSet (now (memory .entry)) part (bitAt candidates) ⌝ }
 {
     let mut left = candidates;

@@ -1,9 +1,8 @@
 // A table of labels. A label is found by probing; nothing is asked of the table, nor of where probing begins: a label that is not found
 // costs time, never truth.
 ghost use mathlib.Core.Path.{_≡_};
-ghost use mathlib.Core.Bool.{true};
 ghost use Prim.Native.Nat.{_<_};
-ghost use Rattle.formed.specs.Registry.{wellFormed};
+ghost use Rattle.formed.specs.Registry.{EntriesFormed};
 ghost use Rattle.entries.specs.Entries.{PartWithin};
 ghost use Rattle.label_table.specs.LabelTable.{places, firstPlace, tablePlace, entered, inTurn, partEntered, policyEntered};
 
@@ -58,7 +57,7 @@ fn enter_part(labels: &mut [u64; 1024], memory: &[u64], part: usize)
 
 // The labels of every policy's parts.
 pub fn enter_all(labels: &mut [u64; 1024], memory: &[u64])
-    requires { ⌜ wellFormed (now memory) ≡ true ⌝ }
+    requires { ⌜ EntriesFormed (now memory) ⌝ }
     ensures { λ u. ⌜ now (labels .exit) ≡ inTurn (policyEntered (now (memory .entry))) 0 128 (now (labels .entry)) ⌝ }
 {
     let mut q = 0;

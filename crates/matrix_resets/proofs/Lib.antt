@@ -1,3 +1,3 @@
 -- Laws of `matrix_resets`.
 mod RowResets
-mod Touched
+pub mod Unnamed

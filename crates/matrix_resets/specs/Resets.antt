@@ -1,20 +1,15 @@
--- The bits of the matrix that a policy's coming or going sets by the rules, row by row.
+-- Bits of the matrix set by the rules, row by row.
 use mathlib.Core.Path.{_≡_}
 use mathlib.Core.Bool.{Bool, true, _&&_, cond}
 use mathlib.Core.List.{List}
 use Prim.Native.Nat.{ℕ}
 use Rattle.bitrow.specs.Bit.{bitAt}
-use Rattle.block.specs.Entry.{Policy}
-use Rattle.block.specs.Written.{directionNumber}
-use Rattle.model.specs.Table.{on, at}
-use Rattle.model.specs.Rules.{selects}
 use Rattle.model.specs.Model.{Model, matrixBit}
-use Rattle.model.specs.Registry.{Registry, setWhere, touched}
+use Rattle.model.specs.Registry.{Registry, setWhere}
 use Rattle.store.specs.Contents.{Contents, Holds}
 use Rattle.store.specs.Memory.{withRow}
-use Rattle.formed.specs.Registry.{modelIn, registryIn, image}
 use Rattle.matrix_rows.specs.declared.Gathered.{Gathered}
-use Rattle.matrix_rows.specs.Lines.{LineFrom}
+use Rattle.matrix_rows.specs.Rows.{RowFrom}
 
 -- the named bits of the matrix by the rules
 unfoldable pub resetWhere : Registry → (ℕ → ℕ → Bool) → Registry
@@ -39,14 +34,6 @@ masked mask rule old y = cond (mask y) (rule y) (old y)
 pub record RowReset (m m′ : List ℕ) (a : ℕ) (mask rule : ℕ → Bool) : Type 0 where
   pub holds : (c : Contents) → Holds m c → Holds m′ (withRow c a (masked mask rule (c .bits a)))
 
--- what is read from g and the lines for one of some is its row of the matrix of m
+-- what is read from g for one of some is its row of the matrix of m
 pub record RowsFrom (m : Model) (some : ℕ → Bool) (g : Gathered) (outs backs : List (List ℕ)) : Type 0 where
-  pub row : {a : ℕ} {r : List ℕ} → LineFrom g outs backs a r → some a ≡ true → bitAt r ≡ matrixBit m a
-
--- the containers that p selects
-unfoldable pub selection : Model → Policy → ℕ → Bool
-selection m p c = on (selects p) (at (m .containers) c)
-
--- the bits of the matrix that a policy of direction d touches, which selects s, are by the rules
-pub record ResetsFor (m : List ℕ) (d : ℕ) (s : ℕ → Bool) (m′ : List ℕ) : Type 0 where
-  pub says : (p : Policy) → d ≡ directionNumber (p .direction) → s ≡ selection (modelIn m) p → m′ ≡ image (resetWhere (registryIn m) (touched (modelIn m) p))
+  pub row : {a : ℕ} {r : List ℕ} → RowFrom g outs backs a r → some a ≡ true → bitAt r ≡ matrixBit m a

@@ -1,15 +1,14 @@
-// The bits of the matrix that a policy has to do with, set by the rules from the entries.
+// Bits of the matrix set by the rules from the entries: those of some rows and columns.
 ghost use mathlib.Core.Path.{_≡_};
-ghost use mathlib.Core.Bool.{true};
 ghost use Prim.Native.Nat.{_<_};
 ghost use Rattle.bitrow.specs.Bit.{bitAt};
 ghost use Rattle.model.specs.Table.{stands};
 ghost use Rattle.model.specs.Model.{containerSlots};
 ghost use Rattle.store.specs.Layout.{Whole};
-ghost use Rattle.formed.specs.Registry.{modelIn, registryIn, image, wellFormed};
+ghost use Rattle.formed.specs.Registry.{modelIn, registryIn, image, EntriesFormed};
 ghost use Rattle.sets.specs.Sets.{Empty};
-ghost use Rattle.policy_entries.specs.PolicyEntry.{SetsStored};
-ghost use Rattle.matrix_resets.specs.Resets.{RowReset, RowsFrom, product, resetWhere, ResetsFor};
+ghost use Rattle.policy_sets.specs.PolicySets.{SetsStored};
+ghost use Rattle.matrix_resets.specs.Resets.{RowReset, RowsFrom, product, resetWhere};
 use matrix_rows::Gathered;
 
 // The bits of row a that are in the columns, set to those of a row by the rules.
@@ -25,7 +24,7 @@ fn reset_row(memory: &mut [u64], a: usize, columns: [u64; 4], ruled: [u64; 4])
     access::set_row(memory, a, row);
 }
 
-// What these rows are read from by the rules. Policy q's sets are taken as they are stored; the lines are empty before.
+// What these rows are read from by the rules. Policy q's sets are taken as they are stored; `outs` and `backs` are empty before.
 fn gather_rows(
     memory: &[u64],
     q: usize,
@@ -34,7 +33,7 @@ fn gather_rows(
     outs: &mut [[u64; 4]; 256],
     backs: &mut [[u64; 4]; 256],
 ) -> Gathered
-    requires { ⌜ (wellFormed (now memory) ≡ true) × (bitAt standing ≡ stands (modelIn (now memory) .containers)) ⌝ }
+    requires { ⌜ EntriesFormed (now memory) × (bitAt standing ≡ stands (modelIn (now memory) .containers)) ⌝ }
     requires { ⌜ (q < 128) × SetsStored (now memory) q × Empty containerSlots (now outs) × Empty containerSlots (now backs) ⌝ }
     ensures { λ r. ⌜ RowsFrom (modelIn (now (memory .entry))) (bitAt rows) r (now (outs .exit)) (now (backs .exit)) ⌝ }
 {
@@ -57,8 +56,8 @@ fn gather_rows(
 }
 
 // The bits of the matrix in these rows and columns, set by the rules from the entries. Policy q's sets are taken as they are stored.
-fn reset_rows(memory: &mut [u64], q: usize, rows: [u64; 4], columns: [u64; 4], standing: [u64; 4])
-    requires { ⌜ (wellFormed (now memory) ≡ true) × (bitAt standing ≡ stands (modelIn (now memory) .containers)) ⌝ }
+pub fn reset(memory: &mut [u64], q: usize, rows: [u64; 4], columns: [u64; 4], standing: [u64; 4])
+    requires { ⌜ EntriesFormed (now memory) × (bitAt standing ≡ stands (modelIn (now memory) .containers)) ⌝ }
     requires { ⌜ (q < 128) × SetsStored (now memory) q ⌝ }
     ensures { λ u. ⌜ now (memory .exit) ≡ image (resetWhere (registryIn (now (memory .entry))) (product (bitAt rows) (bitAt columns))) ⌝ }
 {
@@ -70,25 +69,8 @@ fn reset_rows(memory: &mut [u64], q: usize, rows: [u64; 4], columns: [u64; 4], s
         let row = a;
         a += 1;
         if row_sets::has(rows, row) {
-            let ruled = matrix_rows::line_from(row, gathered, &outs, &backs);
+            let ruled = matrix_rows::row_from(row, gathered, &outs, &backs);
             reset_row(memory, row, columns, ruled);
         }
     }
-}
-
-// The bits that a policy of this direction, which selects these containers, has to do with: set by the rules from the entries. The
-// sets stored for slot q are by them already.
-pub fn reset(memory: &mut [u64], q: usize, direction: u64, selected: [u64; 4], standing: [u64; 4])
-    requires { ⌜ (wellFormed (now memory) ≡ true) × (bitAt standing ≡ stands (modelIn (now memory) .containers)) ⌝ }
-    requires { ⌜ (q < 128) × SetsStored (now memory) q ⌝ }
-    ensures { λ u. ⌜ ResetsFor (now (memory .entry)) direction (bitAt selected) (now (memory .exit)) ⌝ }
-{
-    if row_tests::is_empty(selected) {
-        return;
-    }
-    if direction == 2 {
-        reset_rows(memory, q, selected, standing, standing);
-        return;
-    }
-    reset_rows(memory, q, standing, selected, standing);
 }

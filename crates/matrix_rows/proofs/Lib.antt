@@ -1,2 +1,2 @@
 -- The laws of rows gathered policy by policy.
-pub mod LineLaws
+pub mod RowLaws

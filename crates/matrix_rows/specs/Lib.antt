@@ -1,2 +1,2 @@
 -- What the contracts of `matrix_rows` cite.
-pub mod Lines
+pub mod Rows

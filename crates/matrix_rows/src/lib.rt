@@ -1,16 +1,15 @@
-// Rows of the matrix, many at once: from lines that were gathered policy by policy.
+// Rows of the matrix, many at once: from what was gathered policy by policy.
 ghost use mathlib.Core.Path.{_≡_};
-ghost use mathlib.Core.Bool.{true};
 ghost use Prim.Native.Nat.{_<_};
 ghost use Rattle.bitrow.specs.Bit.{bitAt};
 ghost use Rattle.model.specs.Table.{stands};
 ghost use Rattle.model.specs.Model.{containerSlots};
-ghost use Rattle.formed.specs.Registry.{modelIn, wellFormed};
+ghost use Rattle.formed.specs.Registry.{modelIn, EntriesFormed};
 ghost use Rattle.sets.specs.Sets.{bits, Empty, KnownSets};
-ghost use Rattle.matrix_rows.specs.Lines.{meetIf, Gathers, LineFrom};
+ghost use Rattle.matrix_rows.specs.Rows.{meetIf, Gathers, RowFrom};
 
-// What rows of the matrix are read from, beside the lines of each direction: the standing containers, those that an egress policy
-// selects, and those that an ingress policy selects.
+// What rows of the matrix are read from, beside what was gathered for each container: the standing containers, those that an egress
+// policy selects, and those that an ingress policy selects.
 pub struct Gathered {
     pub standing: [u64; 4],
     pub bound: [u64; 4],
@@ -18,7 +17,8 @@ pub struct Gathered {
 }
 
 // What the rows of some containers are read from. Each policy's two sets come into `selected` and `allowed`, where those of the policy
-// `known` (128 where there is none) are already; the lines of egress into `outs`, those of ingress into `backs`, both empty before.
+// `known` (128 where there is none) are already. Into the row of each of these containers comes, in `outs`, what the egress policies
+// that select it allow, and in `backs` what the ingress policies that allow it select; both are empty before.
 pub fn gather(
     memory: &[u64],
     standing: [u64; 4],
@@ -29,13 +29,13 @@ pub fn gather(
     outs: &mut [[u64; 4]; 256],
     backs: &mut [[u64; 4]; 256],
 ) -> Gathered
-    requires { ⌜ (wellFormed (now memory) ≡ true) × (bitAt standing ≡ stands (modelIn (now memory) .containers)) ⌝ }
+    requires { ⌜ EntriesFormed (now memory) × (bitAt standing ≡ stands (modelIn (now memory) .containers)) ⌝ }
     requires { ⌜ KnownSets (modelIn (now memory)) known (now selected) (now allowed) ⌝ }
     requires { ⌜ Empty containerSlots (now outs) × Empty containerSlots (now backs) ⌝ }
     ensures { λ r. ⌜ Gathers (modelIn (now (memory .entry))) (bitAt some) r (now (selected .exit)) (now (allowed .exit)) (now (outs .exit)) (now (backs .exit)) ⌝ }
 {
     all_sets::fill_sets(memory, standing, known, selected, allowed);
-    let sides = reach::sides::sides_of(memory, standing, selected, 2);
+    let sides = reach::sides_of(memory, standing, selected, 2);
     let out = sides.out;
     let back = sides.back;
     joins::join_all(outs, out, selected, allowed, some);
@@ -62,14 +62,14 @@ fn outward_from(a: usize, bound: [u64; 4], outs: &[[u64; 4]; 256], among: [u64; 
 }
 
 // Row a of the matrix by the rules, where a is one of the containers that were gathered for, or a free slot.
-pub fn line_from(
+pub fn row_from(
     a: usize,
     gathered: Gathered,
     outs: &[[u64; 4]; 256],
     backs: &[[u64; 4]; 256],
 ) -> [u64; 4]
     requires { ⌜ a < 256 ⌝ }
-    ensures { λ r. ⌜ LineFrom gathered (now (outs .entry)) (now (backs .entry)) a r ⌝ }
+    ensures { λ r. ⌜ RowFrom gathered (now (outs .entry)) (now (backs .entry)) a r ⌝ }
 {
     let standing = gathered.standing;
     if !row_sets::has(standing, a) {

@@ -27,9 +27,9 @@ use Rattle.model.specs.Registry.{Registry, computed, consistent, Follows
 use Rattle.model.specs.Refusals.{where0, slotChecks, pairChecks, noRoom, refusals}
 use Rattle.model.specs.RegistryStep.{admitContainer, admitPolicy, admitEntry, takePolicy, answerTo, acceptedStep, unlessRefused, registryStep}
 use Rattle.model.proofs.Tables.{lowest-is-free, full-lowest, free-at, beyond-ltb}
-use Rattle.model.proofs.Unchanged.{container-changed, policy-admitted, policy-removed, opened-computed}
+use Rattle.model.proofs.WrittenRules.{container-changed, policy-admitted, policy-removed}
 use Rattle.model.proofs.Kept.{Kept, step-keeps}
-use Rattle.model.proofs.Consistent.{consistent-exactly, computed-consistent}
+use Rattle.model.proofs.Consistent.{consistent-exactly, computed-consistent, opened-computed}
 
 -- the two tables have their numbers of slots
 pub record Sized (m : Model) : Type 0 where

@@ -1,13 +1,16 @@
--- A test over all numbers below n holds exactly if it holds of each: so audit's test says that every stored bit equals the rules.
-use mathlib.Core.Path.{_≡_, refl, sym, ap, ap₂, _∙_}
+-- A test over all numbers below n holds exactly if it holds of each: so audit's test says that every stored bit equals the rules. An opened registry is computed.
+use mathlib.Core.Path.{_≡_, refl, sym, ap, ap₂, fun-ext, _∙_}
 use mathlib.Core.Bool.{Bool, true, false, _&&_, Bool·beq, and-eq-true-iff}
 use mathlib.Core.Logic.{_↔_}
+use mathlib.Core.Option.{none}
 use Prim.Native.Nat.{ℕ, zero, suc, _+_, _<_}
 use native.Mathlib.Nat.{not-suc-le-zero, zero-add}
 use native.Mathlib.Omega.{arith}
-use Rattle.model.specs.Table.{all, upFrom, below}
-use Rattle.model.specs.Model.{containerSlots, policySlots, Model, computedBits}
-use Rattle.model.specs.Registry.{Registry, computed, sameBits, consistent, Agree, FollowsRules}
+use lib.ListN.{replicate}
+use Rattle.block.specs.Entry.{Settings}
+use Rattle.model.specs.Table.{all, on, at, upFrom, below}
+use Rattle.model.specs.Model.{containerSlots, policySlots, Model, empty, matrixBit, selectedBit, allowedBit, computedBits}
+use Rattle.model.specs.Registry.{Registry, computed, sameBits, consistent, Agree, FollowsRules, opened}
 
 beq-true : (a b : Bool) → Bool·beq a b ≡ true → a ≡ b
 beq-true true true h = refl
@@ -70,3 +73,18 @@ unfolding computed Agree
 computed-consistent m =
     consistent-exactly (computed m) .1
     (record { matrix = λ i j l k. refl; selected = λ i j l k. refl; allowed = λ i j l k. refl })
+
+-- a test of a free table's slot fails
+on-free : {A : Type 0} (f : A → Bool) (n i : ℕ) → false ≡ on f (at (replicate n none) i)
+on-free f zero i = refl
+on-free f (suc n) zero = refl
+on-free f (suc n) (suc i) = on-free f n i
+
+-- An opened registry is computed.
+pub opened-computed : (s : Settings) → opened s ≡ computed (empty s)
+unfolding opened computed computedBits empty matrixBit selectedBit allowedBit
+opened-computed s =
+    let matrix : (λ (a b : ℕ). false) ≡ matrixBit (empty s) = fun-ext λ a. fun-ext λ b. on-free _ 256 a in
+    let selected : (λ (q b : ℕ). false) ≡ selectedBit (empty s) = fun-ext λ q. fun-ext λ b. on-free _ 128 q in
+    let allowed : (λ (q b : ℕ). false) ≡ allowedBit (empty s) = fun-ext λ q. fun-ext λ b. on-free _ 128 q in
+    λ i. record { model = empty s; bits = record { matrix = matrix i; selected = selected i; allowed = allowed i } }

@@ -7,7 +7,10 @@ pub mod Shadow
 pub mod Next
 pub mod Pairs
 pub mod Consistent
-pub mod Unchanged
+pub mod Changes
+pub mod Book
+pub mod WrittenRules
+pub mod Clear
 pub mod Kept
 pub mod Agreement
 pub mod Refused

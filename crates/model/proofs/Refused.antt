@@ -75,13 +75,13 @@ passed-false : (n : ℕ) (u : Bool) (o : Tested) → refuse n (where0 u) o ≡ P
 passed-false n true o e = let z : _≡_ {A = ℕ} 0 1 = cc in absurd (omega arith)
 passed-false n false o e = (refl, e)
 
--- checks that give no refusal: the last of them give none
-pub last-passed : (cs ds : List Check) → firstRefusal (cs ++ ds) ≡ Passed → firstRefusal ds ≡ Passed
+-- checks that give no refusal: neither the first of them nor the last give one
+pub both-passed : (cs ds : List Check) → firstRefusal (cs ++ ds) ≡ Passed → (firstRefusal cs ≡ Passed) × (firstRefusal ds ≡ Passed)
 unfolding orRefusal
-last-passed cs ds e = pick (firstRefusal cs) (sym (first-append cs ds) ∙ e)
+both-passed cs ds e = pick (firstRefusal cs) (sym (first-append cs ds) ∙ e)
   where
-    pick : (o : Tested) → orRefusal o (firstRefusal ds) ≡ Passed → firstRefusal ds ≡ Passed
-    pick Passed e = e
+    pick : (o : Tested) → orRefusal o (firstRefusal ds) ≡ Passed → (o ≡ Passed) × (firstRefusal ds ≡ Passed)
+    pick Passed e = (refl, e)
     pick (Refused f) e = let z : _≡_ {A = ℕ} 0 1 = cc in absurd (omega arith)
 
 module _ (r : Registry) (sized : Sized (r .model)) where
@@ -121,7 +121,7 @@ module _ (r : Registry) (sized : Sized (r .model)) where
   accepted-answers (openWith b) e = refl
   accepted-answers (change (admit b)) e =
       admitted (entrySaid b)
-      (passed-false 12 (noRoom (r .model) (entrySaid b)) Passed (last-passed (entryChecks (r .model .settings) b) _ e) .0)
+      (passed-false 12 (noRoom (r .model) (entrySaid b)) Passed (both-passed (entryChecks (r .model .settings) b) _ e .1) .0)
   accepted-answers (change (removeContainer c)) e = refl
   accepted-answers (change (removePolicy q)) e = taken q (at (r .model .policies) q) (holds-entry q e)
   accepted-answers (change rebuild) e = refl

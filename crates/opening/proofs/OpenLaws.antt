@@ -7,7 +7,6 @@ use lib.ListN.{length}
 use Rattle.block.specs.declared.Refusal.{Refusal}
 use Rattle.block.specs.declared.Tested.{Tested}
 use Rattle.block.specs.declared.Tested.the-variants.{Passed, Refused}
-use Rattle.block.specs.declared.Sort.the-variants as sort
 use Rattle.block.specs.declared.SettingsReading.{SettingsReading}
 use Rattle.block.specs.Refusal.{Read, refused, accepted, testedOf}
 use Rattle.block.specs.Reader.{readSettings}
@@ -22,14 +21,14 @@ use Rattle.steps.proofs.Outcomes.{open-refused, open-done}
 -- ---- a reading
 
 module _ {A : Type 0} (t : Tested) (o : Read A) (says : t ≡ testedOf o) where
-  pub read-refused : (f : Refusal) → t ≡ Refused f → o ≡ refused f
+  read-refused : (f : Refusal) → t ≡ Refused f → o ≡ refused f
   read-refused f e = pick o (sym says ∙ e)
     where
       pick : (x : Read A) → testedOf x ≡ Refused f → x ≡ refused f
       pick (refused g) h = cc
       pick (accepted x) h = cc
 
-  pub read-accepted : t ≡ Passed → (x : A) × (o ≡ accepted x)
+  read-accepted : t ≡ Passed → (x : A) × (o ≡ accepted x)
   read-accepted e = pick o (sym says ∙ e)
     where
       pick : (x : Read A) → testedOf x ≡ Passed → (y : A) × (x ≡ accepted y)

@@ -1,2 +1,3 @@
 -- Laws of `policy_changes`.
+mod Touched
 mod PolicyChanged

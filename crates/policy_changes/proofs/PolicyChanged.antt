@@ -1,29 +1,37 @@
--- The slot settled and the touched bits reset: together they are the model's change of a policy.
+-- The slot's words, its sets and the touched bits: together they are the model's change of a policy.
 use mathlib.Core.Path.{_≡_, refl, sym, ap, _∙_, fun-ext}
-use mathlib.Core.Bool.{Bool, true, cond}
+use mathlib.Core.Bool.{Bool, true, not, cond}
 use mathlib.Core.List.{List}
 use mathlib.Core.Option.{Option, none, some}
 use Prim.Native.Nat.{ℕ, _<_}
+use native.Mathlib.Omega.{arith}
 use lib.Dec.{eqb}
-use Rattle.bitrow.specs.Bit.{bitAt}
+use lib.Seq.{getD-set-same}
+use borrow.Author.Tests.{not-true}
+use Rattle.bitrow.specs.Set.{hasSome}
 use Rattle.block.specs.Entry.{Policy, policy}
-use Rattle.block.specs.Written.{directionNumber, validEntry}
+use Rattle.block.specs.Written.{directionNumber}
 use Rattle.model.specs.Table.{on, at, stands}
 use Rattle.model.specs.Rules.{selects}
-use Rattle.model.specs.Model.{Model, withPolicy, matrixBit, selectedBit, allowedBit, computedBits}
+use Rattle.model.specs.Model.{policySlots, Model, withPolicy, matrixBit, selectedBit, allowedBit, computedBits}
 use Rattle.model.specs.Registry.{Registry, setWhere, touched, changePolicy}
 use Rattle.store.specs.Layout.{policyStart, wordAt}
 use Rattle.store.proofs.Cases.{by-eqb}
-use Rattle.formed.specs.Words.{policyWord, policyAt, policyIn}
-use Rattle.formed.specs.Registry.{modelIn, registryIn, image, wellFormed}
+use Rattle.formed.specs.Words.{policyWord, policyIn}
+use Rattle.formed.specs.Registry.{modelIn, registryIn, image, validPolicy, ValidEntries, EntriesFormed}
+use Rattle.formed.specs.Placed.{policyPlaced}
+use Rattle.formed.proofs.StoredLaws.{Fit}
 use Rattle.formed.proofs.Slots.{first-word}
 use Rattle.formed.proofs.Reading.{policy-slot, formed-policy}
-use Rattle.entries.proofs.Trials.{policy-at}
-use Rattle.policy_entries.specs.PolicyEntry.{SlotWords, Admissible, policyPlaced, settled, Settles}
-use Rattle.matrix_resets.specs.Resets.{resetWhere, selection, ResetsFor}
-use Rattle.policy_entries.proofs.SettledPolicy.{settled-says, settled-model, settled-at}
+use Rattle.formed.proofs.Placed.{policy-placed-valid, policy-placed-in, image-entries, image-model, image-says}
+use Rattle.policy_sets.specs.PolicySets.{settled, SetsStored}
+use Rattle.policy_sets.proofs.SettledPolicy.{settled-entries, settled-model, settled-says, settled-stored}
+use Rattle.matrix_resets.specs.Resets.{resetWhere}
+use Rattle.matrix_resets.proofs.Unnamed.{reset-none}
+use Rattle.policy_changes.specs.Region.{selection}
+use Rattle.policy_changes.proofs.Touched.{untouched}
 
-change-is : (r : Registry) (q : ℕ) (p : Policy) (x : Option Policy) → resetWhere (settled r q x) (touched (settled r q x .model) p) ≡ changePolicy r q p x
+change-is : (r : Registry) (q : ℕ) (p : Policy) (x : Option Policy) → let z = settled (policyPlaced r q x) q in resetWhere z (touched (z .model) p) ≡ changePolicy r q p x
 unfolding resetWhere settled policyPlaced changePolicy setWhere computedBits
 change-is r q p x =
     let m = withPolicy (r .model) q x in
@@ -36,7 +44,7 @@ change-is r q p x =
     row : (u v : ℕ → ℕ → Bool) (i b : ℕ) → cond (eqb i q) (u q) (v i) b ≡ cond (eqb i q) (u i b) (v i b)
     row u v i b = by-eqb (λ t. cond t (u q) (v i) b ≡ cond t (u i b) (v i b)) i q (λ e. ap (λ j. u j b) (sym e)) (λ n. refl)
 
-selected-selection : (m : Model) (q : ℕ) (p : Policy) → at (m .policies) q ≡ some p → selectedBit m q ≡ selection m p
+pub selected-selection : (m : Model) (q : ℕ) (p : Policy) → at (m .policies) q ≡ some p → selectedBit m q ≡ selection m p
 unfolding selectedBit selection
 selected-selection m q p e = fun-ext (λ c. ap (on (λ p. on (λ x. selects p x) (at (m .containers) c))) e)
 
@@ -44,30 +52,62 @@ selection-with : (m : Model) (q : ℕ) (x : Option Policy) (p : Policy) → sele
 unfolding selection withPolicy
 selection-with m q x p = refl
 
-module _ (m : List ℕ) (ok : wellFormed m ≡ true) (q : ℕ) (hq : q < 128) (x : Option Policy) (v : Admissible (modelIn m .settings) x) {ws : List ℕ} (w : SlotWords x ws) {m′ r : List ℕ} (f : Settles m q ws m′ r) where
-  policy-done : {e : List ℕ} (d : ℕ) (s : ℕ → Bool) (p : Policy) → ResetsFor m′ d s e → d ≡ directionNumber (p .direction) → s ≡ selection (modelIn m′) p
-      → e ≡ image (changePolicy (registryIn m) q p x)
-  unfolding registryIn
-  policy-done d s p g ed es =
-      g .says p ed es ∙ ap (λ (z : Registry). image (resetWhere z (touched (z .model) p))) (settled-says m ok q hq x v w f) ∙ ap image (change-is (registryIn m) q p x)
+-- the direction's word of a policy that stands
+pub stored-direction : (m : List ℕ) → EntriesFormed m → (q : ℕ) → q < policySlots → (p : Policy) → at (modelIn m .policies) q ≡ some p → wordAt m (policyStart q) ≡ directionNumber (p .direction)
+stored-direction m ok q hq p e =
+    first-word m (policyStart q) _ (policyWord (policyIn m q)) (formed-policy m ok q hq)
+    ∙ ap (λ o. policyWord o 0) (sym (policy-slot m q hq) ∙ e)
 
--- the policy comes
-module _ (m : List ℕ) (ok : wellFormed m ≡ true) (q : ℕ) (hq : q < 128) {p : Policy} (v : validEntry (modelIn m .settings) (policy p) ≡ true) {ws : List ℕ} (w : SlotWords (some p) ws) {m′ r : List ℕ} (f : Settles m q ws m′ r) where
-  pub policy-comes : {e : List ℕ} (d : ℕ) → ResetsFor m′ d (bitAt r) e → d ≡ directionNumber (p .direction) → e ≡ image (changePolicy (registryIn m) q p (some p))
-  policy-comes d g ed =
-      policy-done m ok q hq (some p) v w f d (bitAt r) p g ed
-      (f .selected (some p) w v ∙ ap (λ (z : Model). selectedBit z q) (sym (settled-model m ok q hq (some p) v w f)) ∙ selected-selection (modelIn m′) q p (settled-at m ok q hq (some p) v w f))
+-- the slot holds x, and the bits are as they were
+module _ (m : List ℕ) (ok : EntriesFormed m) (q : ℕ) (hq : q < policySlots) (x : Option Policy) (v : validPolicy (modelIn m .settings) x ≡ true) {e1 : List ℕ} (f : e1 ≡ image (policyPlaced (registryIn m) q x)) where
+  held-valid : ValidEntries (policyPlaced (registryIn m) q x .model)
+  held-valid = policy-placed-valid m ok q x v
 
--- the policy goes
-module _ (m : List ℕ) (ok : wellFormed m ≡ true) (q : ℕ) (hq : q < 128) (st : stands (modelIn m .policies) q ≡ true) where
-  stored-direction : wordAt m (policyStart q) ≡ directionNumber (policyAt m q .direction)
-  stored-direction =
-      first-word m (policyStart q) _ (policyWord (policyIn m q)) (formed-policy m ok q hq)
-      ∙ ap (λ o. policyWord o 0) (sym (policy-slot m q hq) ∙ policy-at m q st)
+  pub held-entries : EntriesFormed e1
+  held-entries = image-entries _ held-valid f
 
-  pub policy-goes : {ws m′ r e : List ℕ} → SlotWords none ws → Settles m q ws m′ r → (s : ℕ → Bool) → ResetsFor m′ (wordAt m (policyStart q)) s e → s ≡ selectedBit (modelIn m) q
-      → e ≡ image (changePolicy (registryIn m) q (policyAt m q) none)
-  policy-goes {ws} {m′} {r} {e} w f s g es =
-      policy-done m ok q hq none refl w f (wordAt m (policyStart q)) s (policyAt m q) g stored-direction
-      (es ∙ selected-selection (modelIn m) q (policyAt m q) (policy-at m q st) ∙ selection-with (modelIn m) q none (policyAt m q)
-      ∙ ap (λ (z : Model). selection z (policyAt m q)) (sym (settled-model m ok q hq none refl w f)))
+  held-says : registryIn e1 ≡ policyPlaced (registryIn m) q x
+  held-says = image-says _ held-valid f (policy-placed-in m ok q x)
+
+  held-model : modelIn e1 ≡ withPolicy (modelIn m) q x
+  unfolding policyPlaced registryIn
+  held-model = image-model _ held-valid f
+
+  pub held-standing : stands (modelIn m .containers) ≡ stands (modelIn e1 .containers)
+  unfolding withPolicy
+  held-standing = ap (λ (z : Model). stands (z .containers)) (sym held-model)
+
+  pub held-at : at (modelIn e1 .policies) q ≡ x
+  unfolding withPolicy
+  held-at =
+      let n = ok .entries .policies in
+      ap (λ (z : Model). at (z .policies) q) held-model ∙ getD-set-same (modelIn m .policies) q x none (omega arith)
+
+  pub held-selection : (p : Policy) → selection (modelIn m) p ≡ selection (modelIn e1) p
+  held-selection p = selection-with (modelIn m) q x p ∙ ap (λ (z : Model). selection z p) (sym held-model)
+
+  -- and its sets by the entries
+  module _ {e2 : List ℕ} (g : e2 ≡ image (settled (registryIn e1) q)) where
+    pub change-entries : EntriesFormed e2
+    change-entries = settled-entries e1 held-entries q hq g
+
+    change-model : modelIn e2 ≡ modelIn e1
+    change-model = settled-model e1 held-entries q hq g
+
+    pub change-standing : stands (modelIn m .containers) ≡ stands (modelIn e2 .containers)
+    change-standing = held-standing ∙ ap (λ (z : Model). stands (z .containers)) (sym change-model)
+
+    pub change-stored : SetsStored e2 q
+    change-stored = settled-stored e1 held-entries q hq g
+
+    -- and the bits of the matrix that p touches by the rules
+    pub change-done : (p : Policy) {named : ℕ → ℕ → Bool} {e3 : List ℕ} → e3 ≡ image (resetWhere (registryIn e2) named) → named ≡ touched (modelIn e1) p → e3 ≡ image (changePolicy (registryIn m) q p x)
+    unfolding registryIn settled policyPlaced
+    change-done p {named} h k =
+        h ∙ ap (λ (n : ℕ → ℕ → Bool). image (resetWhere (registryIn e2) n)) (k ∙ ap (λ (z : Model). touched z p) (sym change-model))
+        ∙ ap (λ (z : Registry). image (resetWhere z (touched (z .model) p))) (settled-says e1 held-entries q hq g ∙ ap (λ (z : Registry). settled z q) held-says)
+        ∙ ap image (change-is (registryIn m) q p x)
+
+    -- of these there are none where p selects nobody
+    pub change-over : (p : Policy) → Fit e2 → {s : ℕ → Bool} → s ≡ selection (modelIn e1) p → not (hasSome s) ≡ true → e2 ≡ image (changePolicy (registryIn m) q p x)
+    change-over p fit k z = change-done p (reset-none e2 change-entries fit (touched (modelIn e1) p) (untouched (modelIn e1) p (ap hasSome (sym k) ∙ not-true _ z))) refl

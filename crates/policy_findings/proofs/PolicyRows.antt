@@ -24,7 +24,7 @@ meet-none s t e = hasSome-clear (meet s t) (λ j h. meet-at s t j ∙ ap (λ x. 
 
 -- ---- rows
 
-module _ (m : List ℕ) (ok : wellFormed m ≡ true) (a : ℕ) (h : policiesStand m a ≡ true) where
+module _ (m : List ℕ) (a : ℕ) (h : policiesStand m a ≡ true) where
   -- the standing policies that pass a kind's test
   passing-row : (k : ℕ) (f : ℕ → Bool) → ((b : ℕ) → shownAt m k a b ≡ (policiesStand m a && (policiesStand m b && f b)))
       → {row : ℕ → Bool} → row ≡ policiesStand m → meet row f ≡ shownAt m k a
@@ -37,6 +37,7 @@ module _ (m : List ℕ) (ok : wellFormed m ≡ true) (a : ℕ) (h : policiesStan
       by-eqb (λ t. meet row (cond t (shadow (modelIn m) (bitsIn m)) (conflict (modelIn m) (bitsIn m)) a) ≡ shownAt m k a) k 5
       (λ q. of-kind m 5 k a (passing-row 5 _ (at-5 m a) e) q) (λ q. of-kind m 6 k a (passing-row 6 _ (at-6 m a) e) (omega arith))
 
+module _ (m : List ℕ) (ok : wellFormed m ≡ true) (a : ℕ) (h : policiesStand m a ≡ true) where
   -- a set of a is empty: no shadow and no conflict
   shadow-none : (hasSome (bitsIn m .selected a) && hasSome (bitsIn m .allowed a)) ≡ false → nothing ≡ shownAt m 5 a
   unfolding nothing shadow

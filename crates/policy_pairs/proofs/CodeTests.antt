@@ -52,7 +52,7 @@ module _ (m who whom : List ℕ) (a b : ℕ) (c : Compared m who whom a) (x y : 
       (ap₂ (λ u v. u && (not v || ltb b a))
       (ap₂ _&&_ (ep ∙ ap₂ part (c .selected) ex) (eq ∙ ap₂ part (c .allowed) ey))
       (ap₂ _&&_ (er ∙ ap₂ part ex (c .selected)) (es ∙ ap₂ part ey (c .allowed))))
-      ∙ sym (shadow-is m (c .at .formed) a b own-selected own-allowed)
+      ∙ sym (shadow-is m (c .formed) a b own-selected own-allowed)
 
   pub conflict-test : {p q r : Bool} → p ≡ not (hasSome (meet (bitAt who) (bitAt x))) → q ≡ not (hasSome (bitAt y)) → r ≡ not (hasSome (meet (bitAt whom) (bitAt y)))
       → (ltb a b && (oneWay && (not p && (not q && r)))) ≡ conflict (modelIn m) (bitsIn m) a b
@@ -61,4 +61,4 @@ module _ (m who whom : List ℕ) (a b : ℕ) (c : Compared m who whom a) (x y : 
       (ap₂ _&&_ (ap not (ep ∙ ap₂ (λ s t. not (hasSome (meet s t))) (c .selected) ex) ∙ not-not (hasSome (meet (bitsIn m .selected a) (bitsIn m .selected b))))
       (ap₂ _&&_ (ap not (eq ∙ ap (λ s. not (hasSome s)) ey) ∙ not-not (hasSome (bitsIn m .allowed b))) (er ∙ ap₂ (λ s t. not (hasSome (meet s t))) (c .allowed) ey)
       ∙ sym (ap (λ t. t && (hasSome (bitsIn m .allowed b) && not (hasSome (meet (bitsIn m .allowed a) (bitsIn m .allowed b))))) own-allowed)))
-      ∙ sym (conflict-is m (c .at .formed) a b)
+      ∙ sym (conflict-is m (c .formed) a b)

@@ -16,9 +16,9 @@ use Rattle.model.specs.Findings.{oneDirection}
 use Rattle.store.specs.Layout.{policyStart, wordAt}
 use Rattle.model.proofs.Lists.{both}
 use Rattle.formed.specs.Words.{policyAt}
-use Rattle.formed.specs.Registry.{modelIn, bitsIn, registryIn, wellFormed}
+use Rattle.formed.specs.Registry.{modelIn, bitsIn, registryIn, EntriesFormed, wellFormed}
 use Rattle.formed.proofs.Formed.{formed-memory}
-use Rattle.formed.proofs.Reading.{policy-stands, formed-direction, formed-whole}
+use Rattle.formed.proofs.Reading.{policy-stands, formed-direction}
 use Rattle.entries.proofs.Trials.{policy-at, policy-below}
 use Rattle.container_findings.specs.Rows.{containersStand, policiesStand}
 use Rattle.policy_pairs.specs.Comparisons.{AtPolicy}
@@ -50,7 +50,7 @@ same-number x y p q r s = go (ℕ-discrete x 1) (ℕ-discrete y 1)
         let v : y ≡ 2 = omega arith in
         rw (ne-eqb x 1 e, ne-eqb y 1 f) (sym (eq-eqb y x (omega arith)))
 
-module _ (m : List ℕ) (ok : wellFormed m ≡ true) where
+module _ (m : List ℕ) (ok : EntriesFormed m) where
   -- the direction word of a policy that stands is 1 or 2
   direction-known : (q : ℕ) → policiesStand m q ≡ true → (0 < wordAt m (policyStart q)) × (wordAt m (policyStart q) ≤ 2)
   direction-known q h =
@@ -74,7 +74,7 @@ module _ (m : List ℕ) (ok : wellFormed m ≡ true) where
 -- ---- slots
 
 -- a number of the row of standing policies
-pub at-policy : (m row : List ℕ) (b : ℕ) → wellFormed m ≡ true → bitAt row ≡ policiesStand m → bitAt row b ≡ true → AtPolicy m b
+pub at-policy : (m row : List ℕ) (b : ℕ) → EntriesFormed m → bitAt row ≡ policiesStand m → bitAt row b ≡ true → AtPolicy m b
 at-policy m row b ok e h =
     let t = sym (ap (λ s. s b) e) ∙ h in
-    record { formed = ok; whole = formed-whole m ok; here = t; below = policy-below m b t }
+    record { formed = ok; here = t; below = policy-below m b t }

@@ -7,23 +7,22 @@ use lib.Dec.{eqb}
 use Rattle.bitrow.specs.Bit.{bitAt}
 use Rattle.bitrow.specs.Set.{hasSome}
 use Rattle.model.specs.Findings.{shadow, conflict}
-use Rattle.store.specs.Layout.{Whole}
-use Rattle.formed.specs.Registry.{modelIn, bitsIn, wellFormed}
+use Rattle.formed.specs.Registry.{modelIn, bitsIn, EntriesFormed, wellFormed}
 use Rattle.container_findings.specs.Rows.{policiesStand}
 
 -- what kind 5, or else 6, says of two policies
 unfoldable pub comparison : ℕ → List ℕ → ℕ → ℕ → Bool
 comparison kind m = cond (eqb kind 5) (shadow (modelIn m) (bitsIn m)) (conflict (modelIn m) (bitsIn m))
 
--- a well-formed memory and a policy that stands in it
+-- a memory that says entries, and a policy that stands in it
 pub record AtPolicy (m : List ℕ) (a : ℕ) : Type 0 where
-  pub formed : wellFormed m ≡ true
-  pub whole : Whole m
+  pub formed : EntriesFormed m
   pub here : policiesStand m a ≡ true
   pub below : a < 128
 
--- what policy a is compared by: its stored sets, neither of them empty
+-- what policy a of a well-formed memory, whose sets are of standing containers, is compared by: its stored sets, neither of them empty
 pub record Compared (m who whom : List ℕ) (a : ℕ) : Type 0 where
+  pub formed : wellFormed m ≡ true
   pub at : AtPolicy m a
   pub selected : bitAt who ≡ bitsIn m .selected a
   pub allowed : bitAt whom ≡ bitsIn m .allowed a

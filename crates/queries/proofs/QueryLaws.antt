@@ -20,6 +20,7 @@ use Rattle.model.proofs.Agreement.{orRefusal}
 use Rattle.store.specs.Layout.{containersStart, containerWords, containerStart, rowStart, wordAt, rowBit}
 use Rattle.formed.specs.Words.{labelIn, partIn, settingsIn}
 use Rattle.formed.specs.Registry.{modelIn, bitsIn, registryIn, wellFormed}
+use Rattle.formed.proofs.Formed.{formed-entries}
 use Rattle.formed.proofs.Reading.{matrix-in}
 use Rattle.entries.specs.Entries.{freeIn, wordUnder}
 use Rattle.entries.proofs.PartLabels.{label-of}
@@ -89,7 +90,7 @@ module _ (m : List ℕ) (formed : wellFormed m ≡ true) where
         let x = partIn m (containerStart c) in
         let s : stands (modelIn m .containers) c ≡ true = ap (on (λ x. true)) (p .1) in
         user-says m formed c v x (p .0) (p .1)
-        ∙ ap (λ t. (m, says t)) (carries-word 8 x (formed-labels m formed c s) (wordAt m 0) v
+        ∙ ap (λ t. (m, says t)) (carries-word 8 x (formed-labels m (formed-entries m formed) c s) (wordAt m 0) v
         ∙ ap (λ t. t && (not (eqb v 0) && eqb (wordUnder (wordAt m 0) x) (wordAt m 0 * 65536 + v))) (lt-leb v 65535 h))
 
     pub user-answer : (t : Bool) → v ≤ 65535 → t ≡ carries (partIn m (containerStart c)) (labelIn (wordAt m 0 * 65536 + v))

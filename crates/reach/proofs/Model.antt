@@ -1,11 +1,10 @@
--- The rules over candidate sets are the model's rules: a line by the rules is a row or a column of the model's matrix.
+-- The rules over candidate sets are the model's rules: what they give for egress is a row of the model's matrix, for ingress a column.
 use mathlib.Core.Path.{_≡_, refl, sym, ap, ap₂, _∙_, fun-ext}
 use mathlib.Core.Bool.{Bool, not, _&&_, _||_, and-assoc, and-comm, or-assoc, or-false}
 use mathlib.Core.List.{List, [], _∷_}
 use mathlib.Core.Option.{Option, none, some as just}
 use Prim.Native.Nat.{ℕ, zero, suc, _<_}
 use lib.ListN.{length}
-use Rattle.bitrow.specs.Bit.{bitAt}
 use Rattle.bitrow.specs.Set.{some}
 use Rattle.bitrow.proofs.Sets.{point}
 use Rattle.bitrow.proofs.Tests.{some-cong}
@@ -15,9 +14,8 @@ use Rattle.model.specs.Rules.{sameDirection, selects, allows, someSelects, some
 use Rattle.model.specs.Rules as rules
 use Rattle.model.specs.Model.{policySlots, Model, matrixBit, selectedBit, allowedBit}
 use Rattle.sets.specs.Sets.{bits, RowsAre, SetsOf}
-use Rattle.rules.specs.declared.Sides.{Sides}
 use Rattle.rules.specs.Lets.{having, union, setsLet, line}
-use Rattle.reach.specs.Sides.{SidesOf, directionSet, opposite, lineBit}
+use Rattle.reach.specs.Sides.{directionSet, opposite}
 
 -- ---- some slot of a table, as some number below its length
 
@@ -64,46 +62,39 @@ module _ (m : Model) (d : Direction) (a b : ℕ) (x y : Container) (ea : at (m .
 abbrev Slot : Type 0
 Slot = Option Container
 
--- a line over the model's own sets
+-- the rules over the model's own sets
+abbrev modelLine : Model → Direction → ℕ → ℕ → Bool
+modelLine m d a b = line (length (m .policies)) (stands (m .containers)) (directionSet m d) (directionSet m (opposite d)) (selectedBit m) (allowedBit m) a b
+
 module _ (m : Model) (a b : ℕ) where
-  abbrev modelLine : Direction → Bool
-  modelLine d = line (length (m .policies)) (stands (m .containers)) (directionSet m d) (directionSet m (opposite d)) (selectedBit m) (allowedBit m) a b
+  row-model : (o p : Slot) → at (m .containers) a ≡ o → at (m .containers) b ≡ p → modelLine m egress a b ≡ matrixBit m a b
+  unfolding line matrixBit rules.reaches
+  row-model none p e f = rw e
+  row-model (just x) none e f = rw (e, f)
+  row-model (just x) (just y) e f = rw (lets-model m egress a b x y e f, lets-model m ingress b a y x f e, e, f)
 
-  line-model : (d : Direction) (o p : Slot) → at (m .containers) a ≡ o → at (m .containers) b ≡ p → modelLine d ≡ lineBit m d a b
-  unfolding line lineBit matrixBit rules.reaches
-  line-model egress none p e f = rw e
-  line-model egress (just x) none e f = rw (e, f)
-  line-model egress (just x) (just y) e f = rw (lets-model m egress a b x y e f, lets-model m ingress b a y x f e, e, f)
-  line-model ingress none none e f = rw (e, f)
-  line-model ingress none (just y) e f = rw (e, f)
-  line-model ingress (just x) none e f = rw (e, f)
-  line-model ingress (just x) (just y) e f =
-      rw (lets-model m ingress a b x y e f, lets-model m egress b a y x f e, e, f) (and-comm (rules.permits ingress (m .policies) x y) (rules.permits egress (m .policies) y x))
+  column-model : (o p : Slot) → at (m .containers) b ≡ o → at (m .containers) a ≡ p → modelLine m ingress b a ≡ matrixBit m a b
+  unfolding line matrixBit rules.reaches
+  column-model none none e f = rw (e, f)
+  column-model none (just y) e f = rw (e, f)
+  column-model (just x) none e f = rw (e, f)
+  column-model (just x) (just y) e f =
+      rw (lets-model m ingress b a x y e f, lets-model m egress a b y x f e, e, f) (and-comm (rules.permits ingress (m .policies) x y) (rules.permits egress (m .policies) y x))
 
--- ---- a line by the rules over candidate sets is the model's
+-- ---- the rules over candidate sets, the policies in their slots
 
 module _ (m : Model) {n : ℕ} {sel alw : List (List ℕ)}
     (size : length (m .policies) ≡ n) (es : RowsAre n (selectedBit m) sel) (ea : RowsAre n (allowedBit m) alw) where
-  pub line-sets : (d : Direction) {s w v : ℕ → Bool} → s ≡ stands (m .containers) → w ≡ directionSet m d → v ≡ directionSet m (opposite d)
-      → (a : ℕ) → line n s w v (bits sel) (bits alw) a ≡ lineBit m d a
+  sets-model : (d : Direction) {s w v : ℕ → Bool} → s ≡ stands (m .containers) → w ≡ directionSet m d → v ≡ directionSet m (opposite d)
+      → (a b : ℕ) → line n s w v (bits sel) (bits alw) a b ≡ modelLine m d a b
   unfolding line
-  line-sets d {s} {w} {v} f g h a = fun-ext (λ b.
+  sets-model d {s} {w} {v} f g h a b =
       ap₂ (λ (x y : Bool). s a && (s b && (x && y))) (lets-cong n w (es .row) (ea .row) a b) (lets-cong n v (es .row) (ea .row) b a)
-      ∙ rw (f, g, h, ← size) (line-model m a b d (at (m .containers) a) (at (m .containers) b) refl refl))
+      ∙ rw (f, g, h, ← size)
 
--- The row of a container for egress, its column for ingress.
-pub line-row : (m : Model) (a : ℕ) → lineBit m egress a ≡ matrixBit m a
-unfolding lineBit
-line-row m a = fun-ext (λ b. refl)
+module _ (m : Model) {sel alw : List (List ℕ)} (size : length (m .policies) ≡ policySlots) (sets : SetsOf m sel alw) {s w v : ℕ → Bool} (f : s ≡ stands (m .containers)) where
+  pub row-law : w ≡ directionSet m egress → v ≡ directionSet m ingress → (a : ℕ) → line policySlots s w v (bits sel) (bits alw) a ≡ matrixBit m a
+  row-law g h a = fun-ext (λ b. sets-model m size (sets .selected) (sets .allowed) egress f g h a b ∙ row-model m a b (at (m .containers) a) (at (m .containers) b) refl refl)
 
-pub line-column : (m : Model) (b : ℕ) → lineBit m ingress b ≡ (λ a. matrixBit m a b)
-unfolding lineBit
-line-column m b = fun-ext (λ a. refl)
-
--- a line of a model's sets, its policies in their slots: what `row_by_rules` gives, and a row that is read from lines
-module _ (m : Model) {sel alw : List (List ℕ)} (size : length (m .policies) ≡ policySlots) (sets : SetsOf m sel alw) where
-  pub line-law : {s : Sides} (d : Direction) → SidesOf m d sel s → (a : ℕ) → line policySlots (bitAt (s .standing)) (bitAt (s .out)) (bitAt (s .back)) (bits sel) (bits alw) a ≡ lineBit m d a
-  line-law d f a = line-sets m size (sets .selected) (sets .allowed) d (f .standing) (f .out) (f .back) a
-
-  pub row-law : {s : ℕ → Bool} → s ≡ stands (m .containers) → (a : ℕ) → line policySlots s (directionSet m egress) (directionSet m ingress) (bits sel) (bits alw) a ≡ matrixBit m a
-  row-law f a = line-sets m size (sets .selected) (sets .allowed) egress f refl refl a ∙ line-row m a
+  pub column-law : w ≡ directionSet m ingress → v ≡ directionSet m egress → (b : ℕ) → line policySlots s w v (bits sel) (bits alw) b ≡ (λ a. matrixBit m a b)
+  column-law g h b = fun-ext (λ a. sets-model m size (sets .selected) (sets .allowed) ingress f g h b a ∙ column-model m a b (at (m .containers) b) (at (m .containers) a) refl refl)

@@ -1,6 +1,6 @@
 -- The policies of a direction read from a memory, and the sides of a row and of a column.
 use mathlib.Core.Path.{_≡_, refl, sym, ap, _∙_, fun-ext}
-use mathlib.Core.Bool.{Bool, true, false, cond}
+use mathlib.Core.Bool.{Bool, false, cond}
 use mathlib.Core.List.{List, [], _∷_}
 use mathlib.Core.Option.{none, some}
 use Prim.Native.Nat.{ℕ, zero, suc, _+_, _-_, _*_, _≤_, _<_}
@@ -19,7 +19,7 @@ use Rattle.model.specs.Model.{policySlots, Model}
 use Rattle.store.specs.Layout.{policiesStart, policyWords, policyStart, wordAt}
 use Rattle.store.proofs.Cases.{by-eqb}
 use Rattle.formed.specs.Words.{policyAt, policyIn}
-use Rattle.formed.specs.Registry.{modelIn, registryIn, wellFormed}
+use Rattle.formed.specs.Registry.{modelIn, registryIn, EntriesFormed}
 use Rattle.formed.specs.Tests.{firsts}
 use Rattle.formed.proofs.Acceptable.{policies-size}
 use Rattle.formed.proofs.Reading.{policy-slot, policy-beyond, formed-direction}
@@ -45,7 +45,7 @@ same-direction-word (suc (suc zero)) (suc (suc zero)) a b c = refl
 same-direction-word (suc (suc zero)) (suc (suc (suc w))) a b c = absurd (omega arith)
 same-direction-word (suc (suc (suc d))) w a b c = absurd (omega arith)
 
-module _ (m : List ℕ) (ok : wellFormed m ≡ true) (d : ℕ) (low : 1 ≤ d) (high : d ≤ 2) where
+module _ (m : List ℕ) (ok : EntriesFormed m) (d : ℕ) (low : 1 ≤ d) (high : d ≤ 2) where
   abbrev hasDirection : ℕ → Bool
   hasDirection w = eqb w d
 
@@ -98,7 +98,7 @@ sides-exchanged {m} {d} {sel} {s} {t} g x = record {
     twice ingress = refl
     twice egress = refl
 
--- ---- what the laws of a line ask of a memory's model
+-- ---- what the laws of the rules ask of a memory's model
 
 pub policies-length : (m : List ℕ) → length (modelIn m .policies) ≡ policySlots
 unfolding registryIn

@@ -12,13 +12,12 @@ use Rattle.block.specs.declared.Fault.the-variants.{Nowhere}
 use Rattle.block.specs.declared.Tested.{Tested}
 use Rattle.block.specs.declared.Tested.the-variants.{Passed, Refused}
 use Rattle.block.specs.declared.SettingsReading.{SettingsReading}
-use Rattle.block.specs.declared.EntryReading.{EntryReading}
 use Rattle.block.specs.Entry.{Settings}
 use Rattle.block.specs.Bytes.{byteAt}
 use Rattle.block.specs.Fault.{unless}
 use Rattle.block.specs.Refusal.{Check, check, refuse, firstRefusal, readUnless, testedOf}
-use Rattle.block.specs.Reader.{Layout, isContainer, layoutOf, containerLayout, policyLayout, unusedFault, settingsFault, settingsSaid, entrySaid, frame, settingsChecks, entryChecks, readSettings, readEntry}
-use Rattle.block.specs.Reading.{settingsWordsIn, entryWordsIn, ReadsSettings, ReadsEntry}
+use Rattle.block.specs.Reader.{Layout, isContainer, layoutOf, containerLayout, policyLayout, unusedFault, settingsFault, settingsSaid, frame, settingsChecks, entryChecks, readSettings}
+use Rattle.block.specs.Reading.{settingsWordsIn, ReadsSettings}
 use Rattle.layouts.specs.Steps.{bodyChecks, layoutChecks}
 use Rattle.block.proofs.Checks.{equal-none, passed-clear, append-passed}
 
@@ -29,11 +28,11 @@ frame-long b e = equal-none _ _ _ .0 (passed-clear (frame b) .0 e .0)
 
 -- ---- the layout, by byte 0
 
-pub container-laid : (b : List ℕ) → byteAt b 0 ≡ 67 → layoutOf b ≡ containerLayout b
+container-laid : (b : List ℕ) → byteAt b 0 ≡ 67 → layoutOf b ≡ containerLayout b
 unfolding layoutOf
 container-laid b k = simp (eq-eqb _ _ k)
 
-pub policy-laid : (b : List ℕ) → (byteAt b 0 ≡ 67 → ⊥) → layoutOf b ≡ policyLayout b
+policy-laid : (b : List ℕ) → (byteAt b 0 ≡ 67 → ⊥) → layoutOf b ≡ policyLayout b
 unfolding layoutOf
 policy-laid b k = simp (ne-eqb _ _ k)
 
@@ -87,16 +86,7 @@ module _ (b : List ℕ) (e : firstRefusal (frame b) ≡ Passed) where
   pub settings-kind : (byteAt b 0 ≡ 83 → ⊥) → firstRefusal (settingsChecks b) ≡ Refused (record { number = 5; position = 0 })
   settings-kind k = settings-behind ∙ simp (ne-eqb (byteAt b 0) 83 k)
 
--- ---- an accepted block
-
-module _ (s : Settings) (b : List ℕ) (e : firstRefusal (entryChecks s b) ≡ Passed) where
-  pub entry-long : length b ≡ 512
-  unfolding entryChecks
-  entry-long = equal-none _ _ _ .0 (passed-clear (entryChecks s b) .0 e .0)
-
-  pub entry-limits : layoutOf b .limits ≡ Nowhere
-  unfolding entryChecks
-  entry-limits = passed-clear (entryChecks s b) .0 e .1 .1 .1 .0
+-- ---- accepted settings
 
 pub settings-long : (b : List ℕ) → firstRefusal (settingsChecks b) ≡ Passed → length b ≡ 512
 unfolding settingsChecks
@@ -115,12 +105,4 @@ reads-settings b r t e h k =
     record {
       tested = h ∙ sym e ∙ sym (read-tested (firstRefusal (settingsChecks b)) (settingsSaid b));
       settings = k ∙ ap (λ (z : Tested). settingsWordsIn (readUnless z (settingsSaid b))) (sym e);
-    }
-
-pub reads-entry : (s : Settings) (b : List ℕ) (r : EntryReading) (t : Tested) → firstRefusal (entryChecks s b) ≡ t → r .tested ≡ t → r .entry ≡ entryWordsIn (readUnless t (entrySaid b)) → ReadsEntry s b r
-unfolding readEntry
-reads-entry s b r t e h k =
-    record {
-      tested = h ∙ sym e ∙ sym (read-tested (firstRefusal (entryChecks s b)) (entrySaid b));
-      entry = k ∙ ap (λ (z : Tested). entryWordsIn (readUnless z (entrySaid b))) (sym e);
     }

@@ -1,6 +1,6 @@
-// The readers of blocks: what a block of settings, a container or a policy says, and which refusal it meets.
+// What a block of settings says, and which refusal a block meets.
 mod entry;
 mod settings;
 
-pub use entry::read_entry;
+pub use entry::test_entry;
 pub use settings::read_settings;

@@ -17,7 +17,7 @@ use Rattle.bitrow.proofs.Tests.{hasSome-absent}
 use Rattle.model.specs.Table.{on, at, stands}
 use Rattle.model.specs.Model.{policySlots, Model, selectedBit, allowedBit}
 use Rattle.store.specs.Layout.{selectOffset, allowOffset, policyStart, wordAt}
-use Rattle.formed.specs.Registry.{modelIn, wellFormed}
+use Rattle.formed.specs.Registry.{modelIn, EntriesFormed}
 use Rattle.formed.proofs.Reading.{policy-slot, policy-stands, policy-free}
 use Rattle.entries.specs.Entries.{trialSet}
 use Rattle.entries.proofs.Trials.{select-row, allow-row}
@@ -107,7 +107,7 @@ module _ (m : List ℕ) (s : ℕ → Bool) (offset q : ℕ) where
   unfolding partSet
   part-taken n = fun-ext (λ c. rw (ne-eqb (wordAt m (policyStart q)) 0 n))
 
-module _ (m : List ℕ) (ok : wellFormed m ≡ true) where
+module _ (m : List ℕ) (ok : EntriesFormed m) where
   pub selects-within : PartsWithin m selectOffset
   selects-within = record { part = formed-select m ok }
 

@@ -1,16 +1,15 @@
 // A part's candidates by the entries, of one policy and of each.
 ghost use mathlib.Core.Path.{_≡_};
-ghost use mathlib.Core.Bool.{true};
 ghost use Prim.Native.Nat.{_<_};
 ghost use Rattle.bitrow.specs.Bit.{bitAt};
 ghost use Rattle.model.specs.Model.{policySlots};
-ghost use Rattle.formed.specs.Registry.{wellFormed};
+ghost use Rattle.formed.specs.Registry.{EntriesFormed};
 ghost use Rattle.label_table.specs.LabelRows.{LabelRows};
 ghost use Rattle.sets.specs.Sets.{RowsAre, EmptyBut, partSet, PartsWithin};
 
 // Of the candidates, those that the part at an offset of policy q's slot matches; none where the slot is free.
 pub fn part_row(memory: &[u64], q: usize, offset: usize, candidates: [u64; 4]) -> [u64; 4]
-    requires { ⌜ (wellFormed (now memory) ≡ true) × (q < 128) × PartsWithin (now memory) offset ⌝ }
+    requires { ⌜ EntriesFormed (now memory) × (q < 128) × PartsWithin (now memory) offset ⌝ }
     ensures { λ r. ⌜ bitAt r ≡ partSet (now (memory .entry)) (bitAt candidates) offset q ⌝ }
 {
     let at = store::POLICIES + store::POLICY_WORDS * q;
@@ -29,7 +28,7 @@ fn part_by_labels(
     offset: usize,
     candidates: [u64; 4],
 ) -> [u64; 4]
-    requires { ⌜ (wellFormed (now memory) ≡ true) × (q < 128) × PartsWithin (now memory) offset × LabelRows (now memory) (now table) 256 (now rows) ⌝ }
+    requires { ⌜ EntriesFormed (now memory) × (q < 128) × PartsWithin (now memory) offset × LabelRows (now memory) (now table) 256 (now rows) ⌝ }
     ensures { λ r. ⌜ bitAt r ≡ partSet (now (memory .entry)) (bitAt candidates) offset q ⌝ }
 {
     let at = store::POLICIES + store::POLICY_WORDS * q;
@@ -49,7 +48,7 @@ pub fn fill(
     offset: usize,
     candidates: [u64; 4],
 )
-    requires { ⌜ (wellFormed (now memory) ≡ true) × PartsWithin (now memory) offset × LabelRows (now memory) (now table) 256 (now rows) ⌝ }
+    requires { ⌜ EntriesFormed (now memory) × PartsWithin (now memory) offset × LabelRows (now memory) (now table) 256 (now rows) ⌝ }
     requires { ⌜ EmptyBut policySlots known (partSet (now memory) (bitAt candidates) offset) (now sets) ⌝ }
     ensures { λ u. ⌜ RowsAre 128 (partSet (now (memory .entry)) (bitAt candidates) offset) (now (sets .exit)) ⌝ }
 {

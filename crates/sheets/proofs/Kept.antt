@@ -13,29 +13,28 @@ use Rattle.model.specs.Findings.{nextAfter}
 use Rattle.model.specs.Calls.{Call, Answer, openWith}
 use Rattle.model.specs.ModelStep.{modelStep}
 use Rattle.model.specs.Registry.{computed}
-use Rattle.model.proofs.Unchanged.{opened-computed}
-use Rattle.model.proofs.Agreement.{sized-step, sized-empty}
+use Rattle.model.proofs.Consistent.{opened-computed}
 use Rattle.store.specs.Layout.{memoryWords}
-use Rattle.formed.specs.Registry.{registryIn, image, wellFormed}
+use Rattle.formed.specs.Registry.{ValidEntries, registryIn, image, wellFormed}
 use Rattle.formed.proofs.Back.{registry-image}
 use Rattle.formed.proofs.Formed.{acceptable-image}
 use Rattle.steps.specs.MemoryStep.{memoryStep}
 use Rattle.steps.proofs.Outcomes.{open-done}
 use Rattle.steps.proofs.Valid.{acceptable-computed, valid-empty, valid-step}
-use Rattle.steps.proofs.Refinement.{Good, step-refines}
+use Rattle.steps.proofs.Refinement.{step-refines}
 use Rattle.findings.proofs.NextFinding.{nextIn}
 
 -- the memory m is that of the model
 pub record Keeps (m : List ℕ) (w : Model) : Type 0 where
-  pub good : Good w
+  pub valid : ValidEntries w
   pub is : m ≡ image (computed w)
 
 keeps-step : (m : List ℕ) (w : Model) → Keeps m w → (call : Call) → memoryStep m call ≡ (image (computed (modelStep w call .0)), modelStep w call .1)
-keeps-step m w k call = ap (λ (x : List ℕ). memoryStep x call) (k .is) ∙ step-refines w (k .good) call
+keeps-step m w k call = ap (λ (x : List ℕ). memoryStep x call) (k .is) ∙ step-refines w (k .valid) call
 
 pub keeps-after : (m : List ℕ) (w : Model) → Keeps m w → (call : Call) → Keeps (memoryStep m call .0) (modelStep w call .0)
 keeps-after m w k call = record {
-  good = record { sized = sized-step w (k .good .sized) call; valid = valid-step w (k .good .valid) call };
+  valid = valid-step w (k .valid) call;
   is = ap (λ (r : List ℕ × Answer). r .0) (keeps-step m w k call);
 }
 
@@ -44,16 +43,16 @@ keeps-answer m w k call = ap (λ (r : List ℕ × Answer). r .1) (keeps-step m w
 
 pub keeps-open : (m b : List ℕ) → length m ≡ memoryWords → (s : Settings) → readSettings b ≡ accepted s → Keeps (memoryStep m (openWith b) .0) (empty s)
 keeps-open m b h s e = record {
-  good = record { sized = sized-empty s; valid = valid-empty s (settings-valid b s e) };
+  valid = valid-empty s (settings-valid b s e);
   is = ap (λ (r : List ℕ × Answer). r .0) (open-done m b h s e) ∙ ap image (opened-computed s);
 }
 
 module _ (m : List ℕ) (w : Model) (k : Keeps m w) where
   keeps-registry : registryIn m ≡ computed w
-  keeps-registry = ap registryIn (k .is) ∙ registry-image (computed w) (acceptable-computed w (k .good .sized) (k .good .valid))
+  keeps-registry = ap registryIn (k .is) ∙ registry-image (computed w) (acceptable-computed w (k .valid))
 
   pub keeps-formed : wellFormed m ≡ true
-  keeps-formed = ap wellFormed (k .is) ∙ acceptable-image (computed w) (acceptable-computed w (k .good .sized) (k .good .valid))
+  keeps-formed = ap wellFormed (k .is) ∙ acceptable-image (computed w) (acceptable-computed w (k .valid))
 
   pub keeps-next : nextIn m ≡ nextAfter w (computedBits w)
   unfolding registryIn computed

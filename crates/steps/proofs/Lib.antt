@@ -4,5 +4,6 @@ pub mod Outcomes
 pub mod Refused
 pub mod Valid
 pub mod Refinement
+pub mod StaysFormed
 pub mod Walk
 pub mod Parts

@@ -22,17 +22,17 @@ use Rattle.model.specs.ModelStep.{modelAnswer, modelStep}
 use Rattle.model.specs.Registry.{Registry, computed}
 use Rattle.model.specs.Refusals.{refusals}
 use Rattle.model.specs.RegistryStep.{acceptedStep, unlessRefused, registryStep}
-use Rattle.model.proofs.Unchanged.{opened-computed}
-use Rattle.model.proofs.Agreement.{Sized, step-agrees, sized-empty, sized-step}
+use Rattle.model.proofs.Consistent.{opened-computed}
+use Rattle.model.proofs.Agreement.{step-agrees}
 use Rattle.model.proofs.Next.{walk-meets-all}
 use Rattle.store.specs.Layout.{memoryWords}
-use Rattle.formed.specs.Registry.{modelIn, bitsIn, registryIn, image, Acceptable, wellFormed}
+use Rattle.formed.specs.Registry.{modelIn, bitsIn, registryIn, image, ValidEntries, Acceptable, wellFormed}
 use Rattle.formed.proofs.Back.{registry-image}
 use Rattle.formed.proofs.Formed.{acceptable-image}
 use Rattle.steps.specs.MemoryStep.{changes, memoryOutcome, memoryStep}
 use Rattle.steps.specs.Refinement.{Lending, ours, other, onMemory, onModel, followed, walkOn, Refined, Refinement}
 use Rattle.steps.proofs.Outcomes.{refused-outcome, accepted-outcome, change-changes, step-size, step-past, open-past, open-done}
-use Rattle.steps.proofs.Valid.{Valid, acceptable-computed, valid-empty, valid-step}
+use Rattle.steps.proofs.Valid.{acceptable-computed, valid-empty, valid-step, valid-sized}
 
 -- ---- one call
 
@@ -64,37 +64,26 @@ step-image r a call =
     ∙ ap (λ (v : Registry). memoryOutcome (image r) call (firstRefusal (refusals v call))) e
     ∙ outcome-image r call (firstRefusal (refusals r call)) e
 
--- What holds of the model after each call.
-pub record Good (m : Model) : Type 0 where
-  pub sized : Sized m
-  pub valid : Valid m
-
-good-image : (m : Model) → Good m → Acceptable (computed m)
-good-image m g = acceptable-computed m (g .sized) (g .valid)
-
-good-step : (m : Model) → Good m → (call : Call) → Good (modelStep m call .0)
-good-step m g call = record { sized = sized-step m (g .sized) call; valid = valid-step m (g .valid) call }
-
 -- the memory of a model whose bits are computed, and what was answered
 abbrev left : {A : Type 0} → Model × A → List ℕ × A
 left r = (image (computed (r .0)), r .1)
 
-pub step-refines : (m : Model) → Good m → (call : Call) → memoryStep (image (computed m)) call ≡ left (modelStep m call)
-step-refines m g call = step-image (computed m) (good-image m g) call ∙ ap imaged (step-agrees m (g .sized) call)
+pub step-refines : (m : Model) → ValidEntries m → (call : Call) → memoryStep (image (computed m)) call ≡ left (modelStep m call)
+step-refines m g call = step-image (computed m) (acceptable-computed m g) call ∙ ap imaged (step-agrees m (valid-sized m g) call)
 
 -- ---- every list of calls
 
-run-refines : (m : Model) → Good m → (calls : List Lending) → onMemory (image (computed m)) calls ≡ left (onModel m calls)
+run-refines : (m : Model) → ValidEntries m → (calls : List Lending) → onMemory (image (computed m)) calls ≡ left (onModel m calls)
 unfolding onMemory onModel
 run-refines m g [] = refl
-run-refines m g (ours call ∷ calls) = rw (step-refines m g call, run-refines (modelStep m call .0) (good-step m g call) calls)
+run-refines m g (ours call ∷ calls) = rw (step-refines m g call, run-refines (modelStep m call .0) (valid-step m g call) calls)
 run-refines m g (other x e call ∷ calls) = rw (step-size x call e, run-refines m g calls)
 
-good-run : (m : Model) → Good m → (calls : List Lending) → Good (onModel m calls .0)
+valid-run : (m : Model) → ValidEntries m → (calls : List Lending) → ValidEntries (onModel m calls .0)
 unfolding onModel
-good-run m g [] = g
-good-run m g (ours call ∷ calls) = good-run (modelStep m call .0) (good-step m g call) calls
-good-run m g (other x e call ∷ calls) = good-run m g calls
+valid-run m g [] = g
+valid-run m g (ours call ∷ calls) = valid-run (modelStep m call .0) (valid-step m g call) calls
+valid-run m g (other x e call ∷ calls) = valid-run m g calls
 
 -- ---- the walk
 
@@ -104,7 +93,7 @@ followed-is : (o : Option Finding) (f g : Place → List Finding) → ((c : Plac
 followed-is none f g h = refl
 followed-is (some x) f g h = ap (λ l. x ∷ l) (h (placeOf x))
 
-walk-refines : (m : Model) → Good m → (n : ℕ) (c : Place) → walkOn (image (computed m)) n c ≡ walk (nextAfter m (computedBits m)) n c
+walk-refines : (m : Model) → ValidEntries m → (n : ℕ) (c : Place) → walkOn (image (computed m)) n c ≡ walk (nextAfter m (computedBits m)) n c
 unfolding walkOn modelStep modelAnswer
 walk-refines m g zero c = refl
 walk-refines m g (suc n) c =
@@ -113,20 +102,20 @@ walk-refines m g (suc n) c =
 
 -- ---- the theorem
 
--- from the memory of a good model
-refined : (s : Settings) → Good (empty s) → (calls : List Lending) → Refined s (image (computed (empty s))) calls
+-- from the memory of valid entries
+refined : (s : Settings) → ValidEntries (empty s) → (calls : List Lending) → Refined s (image (computed (empty s))) calls
 unfolding registryIn computed
 refined s g calls =
     let e = run-refines (empty s) g calls in
     let m = onModel (empty s) calls .0 in
-    let k = good-run (empty s) g calls in
-    let h = registry-image (computed m) (good-image m k) in
+    let k = valid-run (empty s) g calls in
+    let h = registry-image (computed m) (acceptable-computed m k) in
     record {
       answers = ap (λ r. r .1) e;
       entries = ap (λ r. modelIn (r .0)) e ∙ ap (λ r. r .model) h;
       bits = ap (λ r. bitsIn (r .0)) e ∙ ap (λ r. r .bits) h;
       walk = λ n l. ap (λ r. walkOn (r .0) n start) e ∙ walk-refines m k n start ∙ walk-meets-all m (computedBits m) n l;
-      formed = ap (λ r. wellFormed (r .0)) e ∙ acceptable-image (computed m) (good-image m k);
+      formed = ap (λ r. wellFormed (r .0)) e ∙ acceptable-image (computed m) (acceptable-computed m k);
     }
 
 -- an open that answers done has read its block
@@ -145,4 +134,4 @@ refinement m b whole e calls =
     let s = settingsSaid b in
     let h = open-read m b whole e in
     let o : image (computed (empty s)) ≡ memoryStep m (openWith b) .0 = sym (ap (λ r. r .0) (open-done m b whole s h) ∙ ap image (opened-computed s)) in
-    subst (λ x. Refined s x calls) o (refined s (record { sized = sized-empty s; valid = valid-empty s (settings-valid b s h) }) calls)
+    subst (λ x. Refined s x calls) o (refined s (valid-empty s (settings-valid b s h)) calls)

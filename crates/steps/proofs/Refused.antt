@@ -11,7 +11,7 @@ use Rattle.block.specs.declared.Tested.the-variants.{Passed, Refused}
 use Rattle.block.specs.Refusal.{check, firstRefusal}
 use Rattle.model.specs.Calls.{Call, refusal, said}
 use Rattle.model.specs.Refusals.{where0, refusals, Refuses}
-use Rattle.model.proofs.Refused.{first-exactly, last-passed, accepted-answers}
+use Rattle.model.proofs.Refused.{first-exactly, both-passed, accepted-answers}
 use Rattle.formed.specs.Registry.{registryIn}
 use Rattle.steps.specs.MemoryStep.{otherSize, meetsFormed, memoryRefusals, changes, memoryOutcome, memoryStep}
 use Rattle.steps.proofs.Outcomes.{refused-outcome, accepted-outcome, sized-in}
@@ -21,7 +21,7 @@ module _ (m : List ℕ) where
       → (p : ℕ) × (firstRefusal (memoryRefusals m call) ≡ Refused (record { number = n; position = p }))
   unfolding memoryRefusals registryIn
   answered call n Passed h e =
-      let d = last-passed (check 1 (where0 (otherSize m)) ∷ meetsFormed m call) (refusals (registryIn m) call) h in
+      let d = both-passed (check 1 (where0 (otherSize m)) ∷ meetsFormed m call) (refusals (registryIn m) call) h .1 in
       let a : some n ≡ none = sym (ap (λ x. said x .refused) (sym (ap (λ r. r .1) (accepted-outcome m call)) ∙ e)) ∙ accepted-answers (registryIn m) (sized-in m) call d in
       let z : _≡_ {A = ℕ} 0 1 = cc in
       absurd (omega arith)

@@ -82,3 +82,7 @@ unfoldable pub Refinement : Type 0
 Refinement =
     (m b : List ℕ) → length m ≡ memoryWords → memoryStep m (openWith b) .1 ≡ done
     → (calls : List Lending) → Refined (settingsSaid b) (memoryStep m (openWith b) .0) calls
+
+-- Every call leaves a well-formed memory well formed, whatever its stored bits.
+abbrev pub StaysFormed : Type 0
+StaysFormed = (m : List ℕ) → wellFormed m ≡ true → (call : Call) → wellFormed (memoryStep m call .0) ≡ true

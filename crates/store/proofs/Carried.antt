@@ -7,17 +7,18 @@ use native.Mathlib.Nat.{add-zero, zero-add}
 use native.Mathlib.Omega.{arith}
 use lib.Arith.{digits-div, digits-mod}
 use lib.Dec.{eqb, leb, ltb}
-use lib.ListN.{length, getD, take, length-replicate, getD-replicate}
-use lib.Seq.{sets, length-sets, length-take-le, getD-take}
+use lib.ListN.{length, getD, length-replicate, getD-replicate}
+use lib.Seq.{sets, length-sets}
 use borrow.Author.Tests.{ne-eqb, lt-ltb, le-ltb, le-leb, ltb-true, ltb-false, leb-true, leb-false}
 use Rattle.bitrow.specs.Bit.{bit, bitAt}
 use Rattle.bitrow.proofs.Rows.{words-are}
 use Rattle.bitrow.proofs.Sets.{point}
 use Rattle.bitrow.proofs.Words.{bit-zero}
 use Rattle.store.specs.Layout.{memoryWords, rowsStart, rowCount, rowStart, Whole, wordAt, rowAt, rowBit}
-use Rattle.store.specs.Contents.{Contents, Holds}
+use Rattle.store.specs.Contents.{Contents, Holds, tab}
 use Rattle.store.specs.Memory.{bitWord, fourWords, slotSet, rowSet, bitSet, runs, cleared, withSlot, withRow, changed, blank}
 use Rattle.store.proofs.Cases.{by-eqb}
+use Rattle.store.proofs.Image.{length-tab, getD-tab}
 use Rattle.store.proofs.Stores.{sets-out, sets-in, length-bit, bit-out}
 use Rattle.store.proofs.Bits.{row-bit-set}
 
@@ -71,34 +72,33 @@ by-range P a k b f g = go (leb a k) refl (ltb k b) refl
     go true p false q = g (λ u v. omega (arith, ltb-false k b q))
     go false p t q = g (λ u v. omega (arith, leb-false a k p))
 
-module _ (c : Contents) (start n : ℕ) (ws : List ℕ) where
+module _ (c : Contents) (start n : ℕ) (f : ℕ → ℕ) where
   -- a word of the slot, and any other
-  pub slot-in : (k : ℕ) → start ≤ k → k < start + n → (withSlot c start n ws) .words k ≡ getD ws (k - start) 0
+  pub slot-in : (k : ℕ) → start ≤ k → k < start + n → (withSlot c start n f) .words k ≡ f (k - start)
   unfolding withSlot
   slot-in k a b = rw (le-leb start k a, lt-ltb k (start + n) b)
 
-  pub slot-out : (k : ℕ) → (start ≤ k → k < start + n → ⊥) → (withSlot c start n ws) .words k ≡ c .words k
+  pub slot-out : (k : ℕ) → (start ≤ k → k < start + n → ⊥) → (withSlot c start n f) .words k ≡ c .words k
   unfolding withSlot
-  slot-out k f = by-range (λ t. cond t (getD ws (k - start) 0) (c .words k) ≡ c .words k) start k (start + n) (λ p q. absurd (f p q)) (λ g. refl)
+  slot-out k h = by-range (λ t. cond t (f (k - start)) (c .words k) ≡ c .words k) start k (start + n) (λ p q. absurd (h p q)) (λ g. refl)
 
-  pub slot-bits : (withSlot c start n ws) .bits ≡ c .bits
+  pub slot-bits : (withSlot c start n f) .bits ≡ c .bits
   unfolding withSlot
   slot-bits = refl
 
-pub holds-slot : {m : List ℕ} {c : Contents} → Holds m c → (start n : ℕ) (ws : List ℕ) → start + n ≤ rowsStart → n ≤ length ws
-    → Holds (slotSet m start n ws) (withSlot c start n ws)
+pub holds-slot : {m : List ℕ} {c : Contents} → Holds m c → (start n : ℕ) (f : ℕ → ℕ) → start + n ≤ rowsStart → Holds (slotSet m start n f) (withSlot c start n f)
 unfolding slotSet withSlot rowBit
-holds-slot {m} {c} h start n ws fit long =
+holds-slot {m} {c} h start n f fit =
     let whole = h .whole in
-    let vs = take n ws in
-    let size : length vs ≡ n = length-take-le n ws long in
-    let out : (k : ℕ) → (start ≤ k → k < start + n → ⊥) → wordAt (sets m start vs) k ≡ wordAt m k = λ k f. sets-out vs m start k 0 (λ p q. f p (omega arith)) in
+    let vs = tab n f in
+    let size : length vs ≡ n = length-tab n f in
+    let out : (k : ℕ) → (start ≤ k → k < start + n → ⊥) → wordAt (sets m start vs) k ≡ wordAt m k = λ k g. sets-out vs m start k 0 (λ p q. g p (omega arith)) in
     record {
       whole = length-sets m start vs ∙ whole;
-      words = λ k l. by-range (λ t. wordAt (sets m start vs) k ≡ cond t (getD ws (k - start) 0) (c .words k)) start k (start + n)
+      words = λ k l. by-range (λ t. wordAt (sets m start vs) k ≡ cond t (f (k - start)) (c .words k)) start k (start + n)
           (λ p q. let e : k ≡ start + (k - start) = omega arith in
-          ap (wordAt (sets m start vs)) e ∙ sets-in vs m start (k - start) 0 (omega arith) (omega arith) ∙ getD-take n ws (k - start) 0 (omega arith))
-          (λ f. out k f ∙ h .words k l);
+          ap (wordAt (sets m start vs)) e ∙ sets-in vs m start (k - start) 0 (omega arith) (omega arith) ∙ getD-tab n f (k - start) 0 (omega arith))
+          (λ g. out k g ∙ h .words k l);
       bits = λ r y a b. ap (λ (w : ℕ). bit w (y % 64)) (out (bitWord r y) (λ p q. omega arith)) ∙ h .bits r y a b;
     }
 

@@ -1,5 +1,5 @@
 -- Laws of lists that were stored to: a run of stores, a part that was filled, the rows of a band.
-use mathlib.Core.Path.{_≡_, refl, sym, ap, _∙_}
+use mathlib.Core.Path.{_≡_, refl, sym, ap, ap₂, _∙_}
 use mathlib.Core.Bool.{Bool}
 use mathlib.Core.List.{List, [], _∷_, _++_}
 use Prim.Native.Nat.{ℕ, zero, suc, _+_, _-_, _<_, _≤_}
@@ -7,11 +7,13 @@ use native.Mathlib.Nat.{add-suc, add-zero, suc-add, zero-add, not-suc-le-zero, l
 use native.Mathlib.Numerals.{add-one}
 use native.Mathlib.Omega.{arith}
 use lib.ListN.{length, getD, set, take, replicate, length-set, replicate-append-replicate}
-use lib.Seq.{sets, getD-set-same, getD-set-other, set-append-left, length-take-le, take-suc, take-all, take-suc-set}
+use lib.Seq.{sets, length-sets, getD-set-same, getD-set-other, set-append-left, length-take-le, take-all, take-suc-set}
 use borrow.Rule.Slice.PartMut.{putMid, midOf, postOf, put-same, mid-len}
 use Rattle.store.specs.Layout.{bandRow, wordAt}
 use Rattle.store.specs.declared.Band.{Band}
+use Rattle.store.specs.Contents.{tab}
 use Rattle.store.specs.Memory.{bitWord, slotSet, bitSet, runs, columnSet}
+use Rattle.store.proofs.Image.{length-tab}
 use Rattle.bitrow.specs.Bit.{bitAt}
 
 -- ---- a run of stores
@@ -35,14 +37,54 @@ sets-snoc : {A : Type 0} (vs m : List A) (i : ℕ) (v : A) → sets m i (vs ++ v
 sets-snoc [] m i v = rw add-zero
 sets-snoc (x ∷ vs) m i v = rw (add-suc, ← suc-add) (sets-snoc vs (set m i x) (suc i) v)
 
--- `memory[start + k] = words[k]`, after the first k
-pub slot-more : (m : List ℕ) (start k : ℕ) (words : List ℕ) → k < length words
-    → set (slotSet m start k words) (start + k) (getD words k 0) ≡ slotSet m start (k + 1) words
+-- a table with one place more
+tab-more : {A : Type 0} (n : ℕ) (f : ℕ → A) → tab (suc n) f ≡ tab n f ++ f n ∷ []
+unfolding tab
+tab-more zero f = refl
+tab-more {A} (suc n) f = ap (λ (l : List A). f 0 ∷ l) (tab-more n (λ (i : ℕ). f (suc i)))
+
+-- `memory[start + k] = f(k)`, after the first k
+slot-more : (m : List ℕ) (start k : ℕ) (f : ℕ → ℕ) → set (slotSet m start k f) (start + k) (f k) ≡ slotSet m start (k + 1) f
 unfolding slotSet
-slot-more m start k words h =
-    ap (λ (n : ℕ). set (sets m start (take k words)) (start + n) (getD words k 0)) (sym (length-take-le k words (omega arith)))
-    ∙ sym (sets-snoc (take k words) m start (getD words k 0))
-    ∙ ap (sets m start) (sym (take-suc words k 0 h) ∙ ap (λ (n : ℕ). take n words) (sym (add-one k)))
+slot-more m start k f =
+    ap (λ (n : ℕ). set (sets m start (tab k f)) (start + n) (f k)) (sym (length-tab k f))
+    ∙ sym (sets-snoc (tab k f) m start (f k))
+    ∙ ap (sets m start) (sym (tab-more k f) ∙ ap (λ (n : ℕ). tab n f) (sym (add-one k)))
+
+-- a turn of the loop that stores them
+pub slot-turn : (m l : List ℕ) (start k v : ℕ) (f : ℕ → ℕ) → l ≡ slotSet m start k f → v ≡ f k → set l (start + k) v ≡ slotSet m start (k + 1) f
+slot-turn m l start k v f e q = ap₂ (λ (x : List ℕ) (w : ℕ). set x (start + k) w) e q ∙ slot-more m start k f
+
+pub slot-none : (m : List ℕ) (start : ℕ) (f : ℕ → ℕ) → slotSet m start 0 f ≡ m
+unfolding slotSet tab
+slot-none m start f = refl
+
+-- `memory[start] = f(0)`
+pub slot-first : (m : List ℕ) (start : ℕ) (f : ℕ → ℕ) → set m start (f 0) ≡ slotSet m start 1 f
+slot-first m start f = ap₂ (λ (l : List ℕ) (i : ℕ). set l i (f 0)) (sym (slot-none m start f)) (sym (add-zero start)) ∙ slot-more m start 0 f
+
+pub length-slot : (m : List ℕ) (start n : ℕ) (f : ℕ → ℕ) → length (slotSet m start n f) ≡ length m
+unfolding slotSet
+length-slot m start n f = length-sets m start (tab n f)
+
+-- words that agree are stored alike
+pub slot-same : (m : List ℕ) (start n : ℕ) (f g : ℕ → ℕ) → ((k : ℕ) → k < n → f k ≡ g k) → slotSet m start n f ≡ slotSet m start n g
+slot-same m start zero f g e = slot-none m start f ∙ sym (slot-none m start g)
+slot-same m start (suc n) f g e =
+    ap (λ (k : ℕ). slotSet m start k f) (sym (add-one n)) ∙ sym (slot-more m start n f)
+    ∙ ap₂ (λ (l : List ℕ) (w : ℕ). set l (start + n) w) (slot-same m start n f g (λ k h. e k (omega arith))) (e n (omega arith))
+    ∙ slot-more m start n g ∙ ap (λ (k : ℕ). slotSet m start k g) (add-one n)
+
+-- words stored after others are stored with them
+pub slot-join : (m : List ℕ) (start a b : ℕ) (f : ℕ → ℕ) → slotSet (slotSet m start a f) (start + a) b (λ k. f (a + k)) ≡ slotSet m start (a + b) f
+slot-join m start a zero f = slot-none (slotSet m start a f) (start + a) _ ∙ ap (λ (k : ℕ). slotSet m start k f) (sym (add-zero a))
+slot-join m start a (suc b) f =
+    let e : start + a + b ≡ start + (a + b) = omega arith in
+    let n : a + b + 1 ≡ a + suc b = omega arith in
+    ap (λ (k : ℕ). slotSet (slotSet m start a f) (start + a) k (λ k. f (a + k))) (sym (add-one b))
+    ∙ sym (slot-more (slotSet m start a f) (start + a) b (λ k. f (a + k)))
+    ∙ ap₂ (λ (l : List ℕ) (k : ℕ). set l k (f (a + b))) (slot-join m start a b f) e
+    ∙ slot-more m start (a + b) f ∙ ap (λ (k : ℕ). slotSet m start k f) n
 
 -- ---- a part that was filled
 

@@ -25,12 +25,19 @@ policiesStart = containersStart + 256 * containerWords
 abbrev pub policyWords : ℕ
 policyWords = 11
 
--- where each part of a policy begins in its slot
+-- a policy's part: a header and four labels
+abbrev pub partSize : ℕ
+partSize = 5
+
+-- where part i of a policy begins in its slot, after the direction
+abbrev pub partOffset : ℕ → ℕ
+partOffset i = 1 + partSize * i
+
 abbrev pub selectOffset : ℕ
-selectOffset = 1
+selectOffset = partOffset 0
 
 abbrev pub allowOffset : ℕ
-allowOffset = 6
+allowOffset = partOffset 1
 
 abbrev pub rowsStart : ℕ
 rowsStart = policiesStart + 128 * policyWords

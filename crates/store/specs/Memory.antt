@@ -4,12 +4,12 @@ use mathlib.Core.List.{List, [], _∷_}
 use Prim.Native.Nat.{ℕ, zero, suc, _+_, _-_, _/_, _%_, _^_}
 use lib.Bits.{bitAnd, bitOr}
 use lib.Dec.{eqb, leb, ltb}
-use lib.ListN.{length, getD, set, take, replicate}
+use lib.ListN.{length, getD, set, replicate}
 use lib.Seq.{sets}
 use Rattle.bitrow.specs.Bit.{bitAt}
 use Rattle.store.specs.Layout.{rowStart, bandRow, bandIndex, inBand, wordAt}
 use Rattle.store.specs.declared.Band.{Band}
-use Rattle.store.specs.Contents.{Contents}
+use Rattle.store.specs.Contents.{Contents, tab}
 
 -- ---- the lists
 
@@ -21,9 +21,9 @@ withBit w i v = cond v (bitOr w (2 ^ i)) (bitAnd w (2 ^ 64 - 1 - 2 ^ i))
 abbrev pub bitWord : ℕ → ℕ → ℕ
 bitWord r b = rowStart r + b / 64
 
--- the first n of the words stored from start on
-unfoldable pub slotSet : List ℕ → ℕ → ℕ → List ℕ → List ℕ
-slotSet m start n words = sets m start (take n words)
+-- n words stored from start on, word k of them being f k
+unfoldable pub slotSet : List ℕ → ℕ → ℕ → (ℕ → ℕ) → List ℕ
+slotSet m start n f = sets m start (tab n f)
 
 -- the four words of an array
 abbrev pub fourWords : List ℕ → List ℕ
@@ -51,9 +51,9 @@ cleared m = replicate (length m) 0
 
 -- ---- what they hold
 
-unfoldable pub withSlot : Contents → ℕ → ℕ → List ℕ → Contents
-withSlot c start n words = record {
-  words = λ k. cond (leb start k && ltb k (start + n)) (getD words (k - start) 0) (c .words k);
+unfoldable pub withSlot : Contents → ℕ → ℕ → (ℕ → ℕ) → Contents
+withSlot c start n f = record {
+  words = λ k. cond (leb start k && ltb k (start + n)) (f (k - start)) (c .words k);
   bits = c .bits;
 }
 

@@ -9,7 +9,9 @@ pub const CONTAINERS: usize = SETTINGS_WORDS;
 pub const CONTAINER_SLOTS: usize = 256;
 
 // A slot of a container is one part: a header and eight labels.
-pub const CONTAINER_WORDS: usize = 9;
+pub const CONTAINER_LABELS: usize = 8;
+
+pub const CONTAINER_WORDS: usize = 1 + CONTAINER_LABELS;
 
 pub const POLICIES: usize = CONTAINERS + CONTAINER_SLOTS * CONTAINER_WORDS;
 
@@ -23,13 +25,17 @@ pub const CONTAINERS_192: usize = CONTAINERS + 192 * CONTAINER_WORDS;
 pub const POLICY_SLOTS: usize = 128;
 
 // A slot of a policy is its direction and two parts of a header and four labels: where each begins in the slot.
-pub const POLICY_WORDS: usize = 11;
+pub const PART_LABELS: usize = 4;
 
-pub const POLICIES_64: usize = POLICIES + 64 * POLICY_WORDS;
+pub const PART_WORDS: usize = 1 + PART_LABELS;
 
 pub const SELECT: usize = 1;
 
-pub const ALLOW: usize = 6;
+pub const ALLOW: usize = SELECT + PART_WORDS;
+
+pub const POLICY_WORDS: usize = ALLOW + PART_WORDS;
+
+pub const POLICIES_64: usize = POLICIES + 64 * POLICY_WORDS;
 
 pub const ROWS: usize = POLICIES + POLICY_SLOTS * POLICY_WORDS;
 

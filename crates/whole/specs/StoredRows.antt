@@ -8,7 +8,7 @@ use Rattle.model.specs.Table.{stands}
 use Rattle.model.specs.Model.{Model, computedBits}
 use Rattle.formed.specs.Registry.{storedBit}
 use Rattle.matrix_rows.specs.declared.Gathered.{Gathered}
-use Rattle.matrix_rows.specs.Lines.{Gathers}
+use Rattle.matrix_rows.specs.Rows.{Gathers}
 
 -- row is row r of the stored bits by the rules, whatever model it is all gathered from for all that stand
 pub record StoredFrom (g : Gathered) (sel alw outs backs : List (List ℕ)) (r : ℕ) (row : List ℕ) : Type 0 where

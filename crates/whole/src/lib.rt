@@ -1,10 +1,9 @@
 // The whole registry by the rules: a row of the stored bits, and the rebuild that sets every one.
 ghost use mathlib.Core.Path.{_≡_};
-ghost use mathlib.Core.Bool.{true};
 ghost use Prim.Native.Nat.{_<_};
 ghost use Rattle.model.specs.Registry.{rebuilt};
 ghost use Rattle.store.specs.Layout.{rowCount};
-ghost use Rattle.formed.specs.Registry.{registryIn, image, wellFormed};
+ghost use Rattle.formed.specs.Registry.{registryIn, image, EntriesFormed};
 ghost use Rattle.whole.specs.StoredRows.{StoredFrom};
 
 // Row r of the stored bits by the rules, from what is gathered for all that stand: a row of the matrix, then by turns what a policy
@@ -21,7 +20,7 @@ pub fn row_of_bits(
     ensures { λ row. ⌜ StoredFrom gathered (now (selected .entry)) (now (allowed .entry)) (now (outs .entry)) (now (backs .entry)) r row ⌝ }
 {
     if r < store::SELECTED_ROWS {
-        return matrix_rows::line_from(r, gathered, outs, backs);
+        return matrix_rows::row_from(r, gathered, outs, backs);
     }
     let q = (r - store::SELECTED_ROWS) / store::SET_STEP;
     if r % store::SET_STEP == 0 {
@@ -32,7 +31,7 @@ pub fn row_of_bits(
 
 // "Rebuild sets every kept bit by the rules."
 pub fn rebuild(memory: &mut [u64])
-    requires { ⌜ wellFormed (now memory) ≡ true ⌝ }
+    requires { ⌜ EntriesFormed (now memory) ⌝ }
     ensures { λ u. ⌜ now (memory .exit) ≡ image (rebuilt (registryIn (now (memory .entry)))) ⌝ }
 {
     let mut selected = [[0u64; 4]; 128];

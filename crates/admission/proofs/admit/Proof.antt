@@ -1,13 +1,15 @@
--- Refused as its two tests are; else the words read say an entry that the settings of the memory accept, and the search decides.
+-- Refused as its two tests are; else the block says an entry that the settings of the memory accept, and the search decides.
 use mathlib.Core.Path.{_≡_, refl, sym, _∙_}
 use mathlib.Core.Bool.{true}
-use Rattle.formed.specs.Registry.{modelIn, wellFormed}
-use Rattle.block.specs.Reading.{ReadsEntry}
-use Rattle.formed.proofs.Reading.{formed-whole}
 use Rattle.block.specs.declared.Tested.the-variants.{Passed}
+use Rattle.block.specs.Refusal.{firstRefusal}
+use Rattle.block.specs.Reader.{entryChecks}
+use Rattle.block.proofs.Accepted.{accepted-container, accepted-policy, passed-long}
+use Rattle.formed.specs.Registry.{modelIn, wellFormed}
+use Rattle.formed.proofs.Formed.{formed-entries}
 use Rattle.call_tests.proofs.TestLaws.{memory-refused, memory-passed}
-use Rattle.admission.proofs.BlockLaws.{settings-here, reads-here, ReadContainer, ReadPolicy, admit-refused-by, container-read, policy-read}
 use Rattle.answers.proofs.AdmissionLaws.{admit-container, admit-policy}
+use Rattle.admission.proofs.BlockLaws.{tested-here, admit-refused-by}
 use borrow.Author.Needs.{needs}
 use Rattle.admission.proofs.admit.Statement.{statement}
 use Rattle.admission.proofs.admit.Tie as tie
@@ -18,54 +20,47 @@ returns c = sym (memory-refused _ _ (sym (c .before .before .before .test-memory
 formed : (c : tie.After-enum-told) → wellFormed (c .before .before .before .before .before .before .args .memory .now) ≡ true
 formed c = memory-passed _ (sym (c .before .before .test-memory .ensures) ∙ c .enum-told .given .1)
 
--- the block is read under the settings that the memory says
-entry-read : (c : tie.After-read-entry) → let s = c .before .before .before .before .before .before .before .before .before .before in
-    ReadsEntry (modelIn (s .args .memory .now) .settings) (s .args .block .now) (c .read-entry .result)
-entry-read c = reads-here _ _ _ _ (settings-here _) (c .read-entry .ensures)
+-- the block is tested under the settings that the memory says
+tested : (c : tie.After-test-entry) → let s = c .before .before .before .before .before .before .before .before .before .before in
+    c .test-entry .result ≡ firstRefusal (entryChecks (modelIn (s .args .memory .now) .settings) (s .args .block .now))
+tested c = tested-here _ _ (c .test-entry .ensures)
 
 returns-2 : tie.Need-returns-2
 returns-2 c =
-    let r = c .before .before .before in
-    sym (admit-refused-by _ _ _ (entry-read r) _ (formed (r .before .before .before .before)) (c .before .read .given .1))
+    let t = c .before .before .before in
+    sym (admit-refused-by _ _ _ (formed (t .before .before .before .before)) (sym (tested t) ∙ c .before .tested .given .1))
 
-passed : (c : tie.After-enum-told2) → c .before .before .read-entry .result .tested ≡ Passed
-passed c = c .enum-told2 .given .1
+-- past both tests
+module _ (c : tie.After-enum-told2) where
+  abbrev begun : tie.Start
+  begun = c .before .before .before .before .before .before .before .before .before .before .before .before
 
-container : (c : tie.After-enum-told3) → let r = c .before .before .before .before .before .before in
-    let s = r .before .before .before .before .before .before .before .before .before .before in
-    ReadContainer (modelIn (s .args .memory .now) .settings) (s .args .block .now) (r .read-entry .result .entry .first)
-container c =
-    let d = c .before .before .before .before in
-    container-read _ _ _ (entry-read (d .before .before)) (passed d) (c .enum-told3 .given .1)
+  well : wellFormed (begun .args .memory .now) ≡ true
+  well = formed (c .before .before .before .before .before .before)
 
-policy : (c : tie.After-enum-told4) → let r = c .before .before .before .before .before .before in
-    let s = r .before .before .before .before .before .before .before .before .before .before in
-    ReadPolicy (modelIn (s .args .memory .now) .settings) (s .args .block .now) (r .read-entry .result .entry .direction) (r .read-entry .result .entry .first) (r .read-entry .result .entry .second)
-policy c =
-    let d = c .before .before .before .before in
-    policy-read _ _ _ (entry-read (d .before .before)) (passed d) (c .enum-told4 .given .1)
+  passed : firstRefusal (entryChecks (modelIn (begun .args .memory .now) .settings) (begun .args .block .now)) ≡ Passed
+  passed = sym (tested (c .before .before)) ∙ c .enum-told2 .given .1
 
--- still well formed after the reading
-formed-read : (d : tie.After-enum-told2) → wellFormed (d .before .before .before .before .before .before .before .before .before .before .before .before .args .memory .now) ≡ true
-formed-read d = formed (d .before .before .before .before .before .before)
+shared-slice-read-if1 : tie.Need-shared-slice-read-if1
+shared-slice-read-if1 c = let n = passed-long _ _ (passed (c .before)) in search needs
 
 admit-container-requires : tie.Need-admit-container-requires
-admit-container-requires c κs = let k = c .before in (formed-read (k .before .before .before .before), container k .says)
-
-admit-policy-requires : tie.Need-admit-policy-requires
-admit-policy-requires c κs = let k = c .before .before in (formed-read (k .before .before .before .before), policy k .says)
+admit-container-requires c κs = let t = c .before .before .before in (formed-entries _ (well t), accepted-container _ _ (passed t) (c .before .if1 .taken))
 
 returns-3 : tie.Need-returns-3
 returns-3 c =
     let a = c .before .before in
-    let k = a .before .before in
-    a .admit-container .ensures ∙ sym (admit-container _ (formed-read (k .before .before .before .before)) _ _ (container k .reads))
+    let t = a .before .before .before .before in
+    a .admit-container .ensures ∙ sym (admit-container _ (well t) _ _ (accepted-container _ _ (passed t) (a .before .before .if1 .taken)))
+
+admit-policy-requires : tie.Need-admit-policy-requires
+admit-policy-requires c κs = let t = c .before .before .before in (formed-entries _ (well t), accepted-policy _ _ (passed t) (c .before .if1 .left))
 
 returns-4 : tie.Need-returns-4
 returns-4 c =
     let a = c .before .before in
-    let k = a .before .before .before in
-    a .admit-policy .ensures ∙ sym (admit-policy _ (formed-read (k .before .before .before .before)) _ _ (policy k .reads))
+    let t = a .before .before .before .before in
+    a .admit-policy .ensures ∙ sym (admit-policy _ (well t) _ _ (accepted-policy _ _ (passed t) (a .before .before .if1 .left)))
 
 pub admit-spec : {M : Type 1} → statement M
 admit-spec =
@@ -76,19 +71,18 @@ admit-spec =
     (λ c. search needs)
     returns
     (λ c. search needs)
-    (λ c. let w = formed-whole _ (formed (c .before)) in search needs)
-    (λ c. let w = formed-whole _ (formed (c .before .before)) in search needs)
-    (λ c. let w = formed-whole _ (formed (c .before .before .before)) in search needs)
+    (λ c. let w = formed-entries _ (formed (c .before)) .whole in search needs)
+    (λ c. let w = formed-entries _ (formed (c .before .before)) .whole in search needs)
+    (λ c. let w = formed-entries _ (formed (c .before .before .before)) .whole in search needs)
     (λ c κs. search needs)
     (λ c. search needs)
     (λ c. search needs)
     returns-2
     (λ c. search needs)
-    (λ c. search needs)
+    shared-slice-read-if1
     admit-container-requires
     (λ c. search needs)
-    admit-policy-requires
-    (λ c. search needs)
     returns-3
+    admit-policy-requires
     (λ c. search needs)
     returns-4)

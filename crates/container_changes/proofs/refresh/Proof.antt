@@ -7,11 +7,11 @@ use borrow.Author.Needs.{needs}
 use Rattle.container_changes.proofs.refresh.Statement.{statement}
 use Rattle.container_changes.proofs.refresh.Tie as tie
 
--- from where the container's lines are known to where all sets are, and to the function's start
-abbrev filled : tie.After-lines-of → tie.After-fill-sets
+-- from where the container's row and column are known to where all sets are, and to the function's start
+abbrev filled : tie.After-cross-of → tie.After-fill-sets
 filled c = c .before .before .before .before
 
-abbrev begun : tie.After-lines-of → tie.Start
+abbrev begun : tie.After-cross-of → tie.Start
 begun c = filled c .before .before .before .before .before .before .before
 
 containers-standing-requires : tie.Need-containers-standing-requires
@@ -20,8 +20,8 @@ containers-standing-requires c κs = formed-whole _ (c .before .before .pre .0)
 fill-sets-requires : tie.Need-fill-sets-requires
 fill-sets-requires c κs = let s = c .before .before .before in ((s .before .before .before .pre .0, s .containers-standing .ensures), none-known (empty-rows 128) (empty-rows 128))
 
-lines-of-requires : tie.Need-lines-of-requires
-lines-of-requires c κs =
+cross-of-requires : tie.Need-cross-of-requires
+cross-of-requires c κs =
     let f = c .before .before .before in
     let s = f .before .before .before .before in
     let p = s .before .before .before .pre in
@@ -44,7 +44,7 @@ returns c =
     let l = g .before .before in
     let p = begun l .pre in
     refresh-done _ (p .0) _ (p .1)
-    (bits-by-rules _ _ (l .lines-of .ensures .0) (l .lines-of .ensures .1) (filled l .fill-sets .ensures) (g .holding .ensures) (h .holding2 .ensures))
+    (bits-by-rules _ _ (l .cross-of .ensures .0) (l .cross-of .ensures .1) (filled l .fill-sets .ensures) (g .holding .ensures) (h .holding2 .ensures))
     (b .store-bits .ensures) (λ i. omega (arith, c .slice-known2 .given i))
 
 pub refresh-spec : {M : Type 1} → statement M
@@ -53,7 +53,7 @@ refresh-spec =
     (tie.spec
     containers-standing-requires
     fill-sets-requires
-    lines-of-requires
+    cross-of-requires
     holding-requires
     holding-requires-2
     store-bits-requires

@@ -45,7 +45,7 @@ add-word-under c = let j = lowest (c .before) .below in search needs
 word-under-requires : tie.Need-word-under-requires Inv-loop μ-loop
 word-under-requires c κs =
     let p = c .before .before .before .before .before .before .before .before .pre in
-    container-within _ (p .1) (formed-slots _ (p .0)) _ (lowest (c .before) .below)
+    container-within _ (p .whole) (formed-slots _ p) _ (lowest (c .before) .below)
 
 with-requires : tie.Need-with-requires Inv-loop μ-loop
 with-requires c κs = lowest (c .before .before .before) .below

@@ -26,7 +26,7 @@ add-word c = let b = system-small _ (c .before .before .before .before .pre .for
 carries-requires : tie.Need-carries-requires
 carries-requires c κs =
     let p = c .before .before .before .before .pre in
-    container-within _ (p .whole) (formed-slots _ (p .formed)) _ (p .below)
+    container-within _ (p .formed .whole) (formed-slots _ (p .formed)) _ (p .below)
 
 returns-2 : tie.Need-returns-2
 returns-2 c =

@@ -18,7 +18,7 @@ others-are w =
 word-under-requires : tie.Need-word-under-requires
 word-under-requires c κs =
     let p = c .before .before .before .before .before .pre in
-    container-within _ (p .whole) (formed-slots _ (p .formed)) _ (p .below)
+    container-within _ (p .formed .whole) (formed-slots _ (p .formed)) _ (p .below)
 
 returns : tie.Need-returns
 returns c =

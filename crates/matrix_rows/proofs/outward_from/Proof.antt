@@ -1,7 +1,7 @@
 -- One case where a is bound, one where it is not.
 use borrow.Author.Needs.{needs}
 use mathlib.Core.Path.{sym, _∙_}
-use Rattle.matrix_rows.proofs.LineLaws.{meet-yes, meet-no}
+use Rattle.matrix_rows.proofs.RowLaws.{meet-yes, meet-no}
 use Rattle.matrix_rows.proofs.outward_from.Statement.{statement}
 use Rattle.matrix_rows.proofs.outward_from.Tie as tie
 

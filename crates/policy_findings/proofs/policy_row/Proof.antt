@@ -8,6 +8,7 @@ use Rattle.bitrow.specs.Bit.{bitAt}
 use Rattle.bitrow.specs.Set.{hasSome}
 use Rattle.bitrow.proofs.Sets.{point}
 use Rattle.model.specs.Findings.{needless}
+use Rattle.formed.proofs.Formed.{formed-entries}
 use Rattle.policy_pairs.specs.Comparisons.{AtPolicy, Compared}
 use Rattle.policy_pairs.proofs.PolicyReading.{at-policy}
 use Rattle.container_findings.proofs.KindRows.{no-kind, of-kind}
@@ -21,14 +22,14 @@ use Rattle.policy_findings.proofs.policy_row.Tie as tie
 here : (e : tie.Else1) → let k = e .before .before .before in AtPolicy (k .args .memory .now) (k .args .a)
 here e =
     let p = e .before .before .before .pre in
-    at-policy _ _ _ (p .0) (p .1) (sym (e .before .has .ensures) ∙ not-false _ (e .if1 .left))
+    at-policy _ _ _ (formed-entries _ (p .0)) (p .1) (sym (e .before .has .ensures) ∙ not-false _ (e .if1 .left))
 
 -- past the third neither is empty
 compared : (e : tie.Else3) → let r = e .before .before .before .before in let k = r .before .before .before .before .before in Compared (k .args .memory .now) (r .before .stored-selected .result) (r .stored-allowed .result) (k .args .a)
 compared e =
     let n = none-empty _ _ (e .before .before .is-empty .ensures) (e .before .is-empty2 .ensures) (e .if3 .left) in
     let r = e .before .before .before .before in
-    record { at = here (r .before .before); selected = r .before .stored-selected .ensures; allowed = r .stored-allowed .ensures; selectsSome = n .0; allowsSome = n .1 }
+    record { formed = r .before .before .before .before .before .pre .0; at = here (r .before .before); selected = r .before .stored-selected .ensures; allowed = r .stored-allowed .ensures; selectsSome = n .0; allowsSome = n .1 }
 
 returns : tie.Need-returns
 returns c =
@@ -38,17 +39,16 @@ returns c =
 returns-2 : tie.Need-returns-2
 returns-2 c =
     let r = c .before .before in
-    let h = here (r .before .before) in
-    of-kind _ 7 _ _ (c .irrelevance .ensures ∙ ap₂ needless (ap hasSome (r .before .stored-selected .ensures)) (ap hasSome (r .stored-allowed .ensures)) ∙ needless-row _ (h .formed) _ (h .here)) (c .before .if2 .taken)
+    let p = r .before .before .before .before .before .pre in
+    of-kind _ 7 _ _ (c .irrelevance .ensures ∙ ap₂ needless (ap hasSome (r .before .stored-selected .ensures)) (ap hasSome (r .stored-allowed .ensures)) ∙ needless-row _ (p .0) _ (here (r .before .before) .here)) (c .before .if2 .taken)
 
 returns-3 : tie.Need-returns-3
 returns-3 c =
     let t = c .before .before in
     let r = t .before .before .before in
-    let h = here (r .before .before) in
     let p = r .before .before .before .before .before .pre in
     c .none2 .ensures
-    ∙ compared-none _ (h .formed) _ (h .here) _ (p .3) (t .before .before .if2 .left)
+    ∙ compared-none _ (p .0) _ (here (r .before .before) .here) _ (p .3) (t .before .before .if2 .left)
     (sym (ap₂ (λ x y. hasSome x && hasSome y) (r .before .stored-selected .ensures) (r .stored-allowed .ensures)) ∙ one-empty (hasSome (bitAt (r .before .stored-selected .result))) (hasSome (bitAt (r .stored-allowed .result))) (t .before .is-empty .ensures) (t .is-empty2 .ensures) (c .before .if3 .taken))
 
 compare-all-requires : tie.Need-compare-all-requires
@@ -58,9 +58,8 @@ returns-4 : tie.Need-returns-4
 returns-4 c =
     let t = c .before in
     let r = t .before .before .before .before .before in
-    let h = here (r .before .before) in
     let p = r .before .before .before .before .before .pre in
-    c .compare-all .ensures ∙ comparison-row _ (h .formed) _ (h .here) (p .1) _ (p .3) (t .if4 .taken)
+    c .compare-all .ensures ∙ comparison-row _ _ (here (r .before .before) .here) (p .1) _ (p .3) (t .if4 .taken)
 
 returns-5 : tie.Need-returns-5
 returns-5 c =
@@ -79,8 +78,8 @@ policy-row-spec =
     (λ c κs. search needs)
     (λ c κs. search needs)
     returns
-    (λ c κs. let h = here c in (h .whole, h .below))
-    (λ c κs. let h = here (c .before) in (h .whole, h .below))
+    (λ c κs. let h = here c in (h .formed .whole, h .below))
+    (λ c κs. let h = here (c .before) in (h .formed .whole, h .below))
     (λ c κs. search needs)
     returns-2
     (λ c κs. search needs)

@@ -24,8 +24,8 @@ conflict-at-spec =
     tie.close
     (tie.spec
     (λ c κs. let p = c .before .pre in (p .0 .at, p .1))
-    (λ c κs. let b = c .before .before .pre .1 in (b .whole, b .below))
-    (λ c κs. let b = c .before .before .before .pre .1 in (b .whole, b .below))
+    (λ c κs. let b = c .before .before .pre .1 in (b .formed .whole, b .below))
+    (λ c κs. let b = c .before .before .before .pre .1 in (b .formed .whole, b .below))
     (λ c κs. search needs)
     (λ c κs. search needs)
     (λ c κs. search needs)

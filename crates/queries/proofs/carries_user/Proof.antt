@@ -5,7 +5,8 @@ use Prim.Native.Nat.{_<_, _≤_}
 use native.Mathlib.Omega.{arith}
 use Rattle.store.specs.Layout.{Whole, wordAt}
 use Rattle.formed.specs.Registry.{registryIn, wellFormed}
-use Rattle.formed.proofs.Reading.{formed-whole, formed-small}
+use Rattle.formed.proofs.Formed.{formed-entries}
+use Rattle.formed.proofs.Reading.{formed-small}
 use Rattle.entries.proofs.Trials.{container-within}
 use Rattle.entries.proofs.FormedEntries.{formed-slots}
 use Rattle.block.specs.declared.Tested.the-variants.{Passed}
@@ -42,13 +43,13 @@ returns-3 c = let t = c .before in sym (user-above _ (formed (t .before .before 
 bounds : (c : tie.Else1) → let s = c .before .before .before .before .before .before .before .before in
     (s .args .slot .0 < 256) × Whole (s .args .memory .now) × (wordAt (s .args .memory .now) 0 ≤ 8388608)
 bounds c =
-    let w = formed (c .before .before .before .before) in
-    (container-passed _ _ (passed (c .before)) .0, formed-whole _ w, formed-small _ w 0 (omega arith))
+    let w = formed-entries _ (formed (c .before .before .before .before)) in
+    (container-passed _ _ (passed (c .before)) .0, w .whole, formed-small _ w 0 (omega arith))
 
 carries-requires : tie.Need-carries-requires
 carries-requires c κs =
-    let w = formed (c .before .before .before .before .before) in
-    container-within _ (formed-whole _ w) (formed-slots _ w) _ (bounds (c .before) .0)
+    let w = formed-entries _ (formed (c .before .before .before .before .before)) in
+    container-within _ (w .whole) (formed-slots _ w) _ (bounds (c .before) .0)
 
 returns-4 : tie.Need-returns-4
 returns-4 c =

@@ -2,7 +2,7 @@
 use mathlib.Core.Path.{_≡_, refl, sym, _∙_}
 use mathlib.Core.Bool.{true}
 use Rattle.formed.specs.Registry.{wellFormed}
-use Rattle.formed.proofs.Reading.{formed-whole}
+use Rattle.formed.proofs.Formed.{formed-memory}
 use Rattle.call_tests.proofs.TestLaws.{memory-refused, memory-passed}
 use Rattle.queries.proofs.QueryLaws.{counts-answer}
 use borrow.Author.Needs.{needs}
@@ -29,7 +29,7 @@ counts-spec =
     (λ c. search needs)
     returns
     (λ c. search needs)
-    (λ c κs. formed-whole _ (formed c))
-    (λ c κs. formed-whole _ (formed (c .before)))
-    (λ c κs. formed-whole _ (formed (c .before .before)))
+    (λ c κs. formed-memory _ (formed c) .whole)
+    (λ c κs. formed-memory _ (formed (c .before)) .whole)
+    (λ c κs. formed-memory _ (formed (c .before .before)) .whole)
     returns-2)

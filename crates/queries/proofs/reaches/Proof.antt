@@ -4,7 +4,7 @@ use mathlib.Core.Bool.{true}
 use Prim.Native.Nat.{_<_}
 use Rattle.store.specs.Layout.{Whole}
 use Rattle.formed.specs.Registry.{wellFormed}
-use Rattle.formed.proofs.Reading.{formed-whole}
+use Rattle.formed.proofs.Formed.{formed-memory}
 use Rattle.steps.proofs.Outcomes.{reaches-beyond-right}
 use Rattle.block.specs.declared.Tested.the-variants.{Passed}
 use Rattle.call_tests.proofs.TestLaws.{containerTest, memory-refused, memory-passed, container-passed, containers-within}
@@ -48,7 +48,7 @@ bounds : (c : tie.After-enum-told3) → let s = c .before .before .before .befor
     (s .args .from .0 < 256) × Whole (s .args .memory .now)
 bounds c =
     let t = c .before .before .before in
-    (container-passed _ _ (first t) .0, formed-whole _ (formed (t .before .before .before .before)))
+    (container-passed _ _ (first t) .0, formed-memory _ (formed (t .before .before .before .before)) .whole)
 
 returns-5 : tie.Need-returns-5
 returns-5 c =

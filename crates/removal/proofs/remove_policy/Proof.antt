@@ -2,6 +2,7 @@
 use mathlib.Core.Path.{_≡_, refl, sym, _∙_}
 use mathlib.Core.Bool.{true}
 use Rattle.formed.specs.Registry.{registryIn, wellFormed}
+use Rattle.formed.proofs.Formed.{formed-entries}
 use Rattle.block.specs.declared.Tested.the-variants.{Passed}
 use Rattle.model.specs.Refusals.{refusals}
 use Rattle.call_tests.proofs.TestLaws.{policyTest, memory-refused, memory-passed, policy-passed, policy-refused, policies-within}
@@ -30,7 +31,7 @@ passed : (c : tie.After-enum-told2) → let s = c .before .before .before .befor
 passed c = sym (c .before .before .test-slot .ensures) ∙ c .enum-told2 .given .1
 
 take-policy-requires : tie.Need-take-policy-requires
-take-policy-requires c κs = (formed (c .before .before .before .before .before), policy-passed _ _ (passed (c .before)) .0, policy-stands-there _ _ (passed (c .before)))
+take-policy-requires c κs = (formed-entries _ (formed (c .before .before .before .before .before)), policy-passed _ _ (passed (c .before)) .0, policy-stands-there _ _ (passed (c .before)))
 
 returns-3 : tie.Need-returns-3
 returns-3 c =

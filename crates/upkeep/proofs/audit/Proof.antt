@@ -2,6 +2,7 @@
 use mathlib.Core.Path.{_≡_, refl, sym, _∙_}
 use mathlib.Core.Bool.{true}
 use Rattle.formed.specs.Registry.{wellFormed}
+use Rattle.formed.proofs.Formed.{formed-entries}
 use Rattle.call_tests.proofs.TestLaws.{memory-refused, memory-passed}
 use Rattle.upkeep.proofs.UpkeepLaws.{audit-answer}
 use borrow.Author.Needs.{needs}
@@ -25,5 +26,5 @@ audit-spec =
     (λ c. search needs)
     returns
     (λ c. search needs)
-    (λ c κs. formed c)
+    (λ c κs. formed-entries _ (formed c))
     returns-2)

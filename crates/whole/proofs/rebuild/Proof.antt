@@ -6,8 +6,7 @@ use Rattle.store.specs.Layout.{rowCount}
 use Rattle.formed.specs.Registry.{registryIn}
 use Rattle.store.proofs.Columns.{filling-none}
 use Rattle.formed.proofs.StoredLaws.{Fit}
-use Rattle.formed.proofs.Formed.{formed-holds}
-use Rattle.formed.proofs.Reading.{formed-whole, formed-fits}
+use Rattle.formed.proofs.Reading.{formed-whole, entries-hold}
 use Rattle.sets.proofs.Candidates.{none-known, empty-rows}
 use Rattle.whole.proofs.WholeLaws.{Rebuilding, rebuilding-next, rebuilt-image}
 use Rattle.whole.proofs.rebuild.Statement.{statement}
@@ -26,7 +25,7 @@ gather-requires : tie.Need-gather-requires Inv-loop μ-loop
 gather-requires c κs = let s = c .before .before .before .before .before in ((s .before .before .before .pre, s .containers-standing .ensures), (none-known (empty-rows 128) (empty-rows 128), (empty-rows 256, empty-rows 256)))
 
 loop-holds : tie.Need-loop-holds Inv-loop μ-loop
-loop-holds c = let ok = c .before .before .before .before .before .before .before .before .before .pre in (filling-none (formed-holds _ ok), formed-fits _ ok)
+loop-holds c = let ok = c .before .before .before .before .before .before .before .before .before .pre in (filling-none (entries-hold _ ok), λ k. omega (arith, c .before .before .before .before .before .before .before .before .slice-known .given k))
 
 set-row-requires : tie.Need-set-row-requires Inv-loop μ-loop
 set-row-requires c κs = let t = c .before .before .before .before .before .before in (t .before .loop .inv .0 .held .whole, omega (arith, t .loop-test .taken))

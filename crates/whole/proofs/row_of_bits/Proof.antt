@@ -12,7 +12,7 @@ use Rattle.whole.proofs.row_of_bits.Tie as tie
 
 returns : tie.Need-returns
 unfolding computedBits
-returns c = record { is = λ g e. c .line-from .ensures .is g (λ h. point e _ ∙ h) ∙ sym (stored-matrix _ _ (c .before .if1 .taken)) }
+returns c = record { is = λ g e. c .row-from .ensures .is g (λ h. point e _ ∙ h) ∙ sym (stored-matrix _ _ (c .before .if1 .taken)) }
 
 returns-2 : tie.Need-returns-2
 unfolding computedBits

@@ -3,7 +3,7 @@ use Prim.Native.Nat.{_+_, _-_, _*_, _≤_, _<_}
 use native.Mathlib.Omega.{arith}
 use lib.ListN.{length}
 use borrow.Author.Needs.{needs}
-use Rattle.formed.proofs.Reading.{formed-whole}
+use Rattle.formed.proofs.Formed.{formed-memory}
 use Rattle.findings.specs.Steps.{cursorPlace}
 use Rattle.row_listing.proofs.LoopTests.{both-less, not-both-less}
 use Rattle.findings.proofs.Walk.{SmallPlace}
@@ -35,10 +35,10 @@ small : (t : tie.Then1 Inv-loop μ-loop) → let l = t .before .before .loop in 
 small t = let l = t .before .before .loop in both-less 0 (l .kind) (l .a) 256 (t .if1 .taken)
 
 containers-standing-requires : tie.Need-containers-standing-requires Inv-loop μ-loop
-containers-standing-requires c κs = formed-whole _ (c .before .before .pre)
+containers-standing-requires c κs = formed-memory _ (c .before .before .pre) .whole
 
 policies-standing-requires : tie.Need-policies-standing-requires Inv-loop μ-loop
-policies-standing-requires c κs = formed-whole _ (c .before .before .before .pre)
+policies-standing-requires c κs = formed-memory _ (c .before .before .before .pre) .whole
 
 loop-holds : tie.Need-loop-holds Inv-loop μ-loop
 loop-holds c = listed-none _ (sized (c .before .before .before .before .before .before .before))

@@ -1,0 +1,3 @@
+-- The laws of what is placed.
+mod Fields
+mod SlotWords

@@ -1,0 +1,2 @@
+-- What the contracts of `policy_changes` cite.
+pub mod Region

@@ -1,4 +1,0 @@
--- Laws of `policy_entries`.
-pub mod SaidPolicy
-mod PlacedPolicy
-pub mod SettledPolicy

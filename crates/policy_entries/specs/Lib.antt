@@ -1,2 +1,0 @@
--- What the contracts of `policy_entries` cite.
-pub mod PolicyEntry

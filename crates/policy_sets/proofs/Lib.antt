@@ -1,0 +1,2 @@
+-- Laws of `policy_sets`.
+pub mod SettledPolicy

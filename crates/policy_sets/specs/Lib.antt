@@ -1,0 +1,2 @@
+-- What the contracts of `policy_sets` cite.
+pub mod PolicySets
