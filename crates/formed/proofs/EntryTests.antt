@@ -189,9 +189,9 @@ module _ (s : Settings) (m : List ℕ) (c : ℕ) where
 -- ---- a policy's slot
 
 -- a direction's number is read back
-pub direction-word : (d : ℕ) → (d ≡ 0 → ⊥) → d ≤ 2 → d ≡ directionNumber (directionOf d)
+pub direction-read : (d : ℕ) → (d ≡ 0 → ⊥) → d ≤ 2 → d ≡ directionNumber (directionOf d)
 unfolding directionOf
-direction-word d n h = go (eqb d 1) refl
+direction-read d n h = go (eqb d 1) refl
   where
     go : (t : Bool) → eqb d 1 ≡ t → d ≡ directionNumber (cond t ingress egress)
     go true e = eqb-true _ _ e
@@ -204,7 +204,7 @@ module _ (m : List ℕ) (q : ℕ) where
   entry-words : (wordAt m (policyStart q) ≡ 0 → ⊥) → entryOk ≡ true → Words m (policyStart q) policyWords (policyWord (some (policyAt m q)))
   unfolding policyAt
   entry-words n e zero h =
-      ap (λ i. wordAt m i) (add-zero (policyStart q)) ∙ direction-word (wordAt m (policyStart q)) n (leb-true _ _ (and-left _ _ e))
+      ap (λ i. wordAt m i) (add-zero (policyStart q)) ∙ direction-read (wordAt m (policyStart q)) n (leb-true _ _ (and-left _ _ e))
   entry-words n e (suc k) h =
       let i = k / partSize in
       let a : policyStart q + suc k ≡ policyStart q + partOffset i + k % partSize = omega arith in

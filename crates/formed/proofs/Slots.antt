@@ -8,7 +8,7 @@ use native.Mathlib.Nat.{add-zero}
 use native.Mathlib.Omega.{arith}
 use lib.ListN.{length, getD}
 use borrow.Author.Tests.{eq-eqb, ne-eqb}
-use Rattle.block.specs.Entry.{Label, Container, Direction, ingress, egress, Policy, Settings, container, policy}
+use Rattle.block.specs.Entry.{Container, Direction, ingress, egress, Policy, Settings, container, policy}
 use Rattle.block.specs.Reader.{directionOf}
 use Rattle.block.specs.Written.{directionNumber, validLabels, validEntry}
 use Rattle.block.proofs.Written.{direction-back}
@@ -94,17 +94,14 @@ module _ (s : Settings) (m : List ℕ) (q : ℕ) where
   policy-back (some p) v w =
       rw (ne-eqb (wordAt m (policyStart q)) 0 (policy-stands m q p w)) (ap some (policy-at-back m q p w (valid-policy s p v)))
 
--- what holds of each part of a policy, and of no labels, holds at every place
-by-policy-part : (P : List Label → Type 0) (p : Policy) → P [] → P (p .select) → P (p .allow) → (i : ℕ) → P (getD (partsOf p) i [])
-by-policy-part P p n s a zero = s
-by-policy-part P p n s a (suc zero) = a
-by-policy-part P p n s a (suc (suc i)) = n
+-- each part of a valid policy, and no labels past the last, are valid
+part-valid : (p : Policy) → PolicyParts p → (i : ℕ) → validLabels 4 (getD (partsOf p) i []) ≡ true
+unfolding validLabels
+part-valid p f zero = f .select
+part-valid p f (suc zero) = f .allow
+part-valid p f (suc (suc i)) = refl
 
 pub policy-small : (s : Settings) (o : Option Policy) → validPolicy s o ≡ true → (k : ℕ) → policyWord o k ≤ 2 ^ 23
-unfolding validLabels
 policy-small s none v k = omega arith
 policy-small s (some p) v zero = let d = direction-small (p .direction) in omega arith
-policy-small s (some p) v (suc k) =
-    let f = valid-policy s p v in
-    let small : (ls : List Label) → validLabels 4 ls ≡ true → partWord ls (k % partSize) ≤ 2 ^ 23 = λ ls e. part-small 4 ls e (omega arith) (k % partSize) in
-    by-policy-part (λ ls. partWord ls (k % partSize) ≤ 2 ^ 23) p (small [] refl) (small (p .select) (f .select)) (small (p .allow) (f .allow)) (k / partSize)
+policy-small s (some p) v (suc k) = part-small 4 (getD (partsOf p) (k / partSize) []) (part-valid p (valid-policy s p v) (k / partSize)) (omega arith) (k % partSize)

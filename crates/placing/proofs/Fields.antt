@@ -14,7 +14,7 @@ use Rattle.block.proofs.Checks.{within-bounds}
 use Rattle.block.proofs.LabelLists.{length-labels-at}
 use Rattle.formed.proofs.Parts.{labels-few}
 use Rattle.formed.proofs.Slots.{valid-container, valid-policy}
-use Rattle.formed.proofs.EntryTests.{direction-word}
+use Rattle.formed.proofs.EntryTests.{direction-read}
 
 count-few : (limit : ℕ) (b : List ℕ) (p n : ℕ) → validLabels limit (labelsAt b p n) ≡ true → n ≤ limit
 count-few limit b p n v = omega (arith, labels-few limit (labelsAt b p n) v, length-labels-at b p n)
@@ -43,7 +43,7 @@ policy-fields s b q =
     let v = valid-policy s _ (accepted-valid s b _ q) in
     record {
       long = entry-accepted s b _ .0 q .long;
-      direction = direction-word (byteAt b 1) (λ z. let h = d .0 in omega arith) (d .1);
+      direction = direction-read (byteAt b 1) (λ z. let h = d .0 in omega arith) (d .1);
       select = count-few 4 b 4 (byteAt b 2) (v .select);
       allow = count-few 4 b (4 + 4 * byteAt b 2) (byteAt b 3) (v .allow);
     }

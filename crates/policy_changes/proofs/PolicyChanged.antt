@@ -29,7 +29,7 @@ use Rattle.policy_sets.proofs.SettledPolicy.{settled-entries, settled-model, se
 use Rattle.matrix_resets.specs.Resets.{resetWhere}
 use Rattle.matrix_resets.proofs.Unnamed.{reset-none}
 use Rattle.policy_changes.specs.Region.{selection}
-use Rattle.policy_changes.proofs.Touched.{untouched}
+use Rattle.policy_changes.proofs.Touched.{nobody-touched}
 
 change-is : (r : Registry) (q : ℕ) (p : Policy) (x : Option Policy) → let z = settled (policyPlaced r q x) q in resetWhere z (touched (z .model) p) ≡ changePolicy r q p x
 unfolding resetWhere settled policyPlaced changePolicy setWhere computedBits
@@ -110,4 +110,4 @@ module _ (m : List ℕ) (ok : EntriesFormed m) (q : ℕ) (hq : q < policySlots) 
 
     -- of these there are none where p selects nobody
     pub change-over : (p : Policy) → Fit e2 → {s : ℕ → Bool} → s ≡ selection (modelIn e1) p → not (hasSome s) ≡ true → e2 ≡ image (changePolicy (registryIn m) q p x)
-    change-over p fit k z = change-done p (reset-none e2 change-entries fit (touched (modelIn e1) p) (untouched (modelIn e1) p (ap hasSome (sym k) ∙ not-true _ z))) refl
+    change-over p fit k z = change-done p (reset-none e2 change-entries fit (touched (modelIn e1) p) (nobody-touched (modelIn e1) p (ap hasSome (sym k) ∙ not-true _ z))) refl

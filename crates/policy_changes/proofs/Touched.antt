@@ -45,9 +45,9 @@ module _ (m : Model) (p : Policy) where
       go (some x) (some y) = rw e
 
 -- a policy that selects nobody touches nothing
-pub untouched : (m : Model) (p : Policy) → hasSome (selection m p) ≡ false → (a b : ℕ) → a < 256 → b < 256 → touched m p a b ≡ false
+pub nobody-touched : (m : Model) (p : Policy) → hasSome (selection m p) ≡ false → (a b : ℕ) → a < 256 → b < 256 → touched m p a b ≡ false
 unfolding product
-untouched m p none-selected a b ha hb = go (p .direction) refl
+nobody-touched m p none-selected a b ha hb = go (p .direction) refl
   where
     nobody : (c : ℕ) → c < 256 → selection m p c ≡ false
     nobody = hasSome-absent (selection m p) none-selected
