@@ -8,6 +8,7 @@ pub mod Acceptable
 pub mod Formed
 pub mod Reading
 pub mod Placed
+pub mod Apart
 pub mod Runs
 pub mod Standing
 pub mod Rows

@@ -14,16 +14,17 @@ use Rattle.block.specs.Written.{validSettings}
 use Rattle.model.specs.Table.{at, stands}
 use Rattle.model.specs.Model.{containerSlots, policySlots}
 use Rattle.model.proofs.Lists.{denied}
+use Rattle.model.proofs.Clear.{BitsStand}
 use Rattle.store.specs.Layout.{settingsSize, containersStart, containerWords, policiesStart, policyWords, rowsStart, containerStart, policyStart, selectedRow, allowedRow, Whole, wordAt, rowBit}
 use Rattle.store.proofs.Cases.{by-ltb}
 use Rattle.formed.specs.Words.{settingsWord, containerWord, policyWord, settingsIn}
-use Rattle.formed.specs.Registry.{modelIn, bitsIn, registryIn, entryWord, validContainer, validPolicy, acceptable, ValidEntries, Acceptable, EntriesFormed, wellFormed}
+use Rattle.formed.specs.Registry.{modelIn, bitsIn, registryIn, entryWord, validContainer, validPolicy, ValidEntries, EntriesFormed, wellFormed}
 use Rattle.formed.specs.Tests.{containerOk, policyOk, containersOk, policiesOk, rowOk, matrixRowOk, setRowsOk, matrixOk, setsOk, tests}
 use Rattle.formed.proofs.StoredLaws.{by-part}
-use Rattle.formed.proofs.Back.{image-written}
 use Rattle.formed.proofs.Acceptable.{containers-size, policies-size, registry-in-tables}
-use Rattle.formed.proofs.Formed.{formed-memory, memory-formed, formed-entries}
-use Rattle.formed.proofs.Reading.{container-slot, container-beyond, policy-slot, policy-beyond, container-stands, policy-stands, matrix-in, selected-in, allowed-in, entries-hold, formed-container, formed-policy}
+use Rattle.formed.proofs.Formed.{formed-memory}
+use Rattle.formed.proofs.Apart.{formed-apart}
+use Rattle.formed.proofs.Reading.{container-slot, container-beyond, policy-slot, policy-beyond, container-stands, policy-stands, matrix-in, selected-in, allowed-in, formed-container, formed-policy}
 use Rattle.formed.proofs.Runs.{and-left, and-right, and-passes, between-at, between-all}
 use Rattle.formed.proofs.Rows.{row-holds, row-passes}
 use Rattle.formed.proofs.EntryTests.{container-holds, container-passes, policy-holds, policy-passes}
@@ -98,13 +99,12 @@ module _ (m : List ℕ) (ok : tests m ≡ true) where
     policy = policy-valid (modelIn m .settings);
   }
 
-  tests-acceptable : Acceptable (registryIn m)
+  tests-stand : BitsStand (registryIn m)
   unfolding registryIn
-  tests-acceptable =
+  tests-stand =
       let b = registry-in-tables m in
       let p = stands (modelIn m .policies) in
       record {
-        entries = entries-valid;
         matrix = λ i j t. bits-stand m containerSlots containerStart s (container-stands m) (λ x. x) (bitsIn m .matrix) (matrix-in m) s matrix-ok i j (b .matrix i j t) t;
         selected = λ i j t. bits-stand m policySlots policyStart p (policy-stands m) selectedRow (bitsIn m .selected) (selected-in m) s (λ q h. and-left _ _ (sets-ok q h)) i j (b .selected i j t) t;
         allowed = λ i j t. bits-stand m policySlots policyStart p (policy-stands m) allowedRow (bitsIn m .allowed) (allowed-in m) s (λ q h. and-right _ _ (sets-ok q h)) i j (b .allowed i j t) t;
@@ -141,30 +141,24 @@ module _ (m : List ℕ) (ok : tests m ≡ true) where
 
 -- ---- to the tests
 
-module _ (m : List ℕ) (e : wellFormed m ≡ true) where
-  accepted : Acceptable (registryIn m)
-  accepted = formed-memory m e .acceptable
-
+module _ (m : List ℕ) (f : EntriesFormed m) where
   container-pass : (c : ℕ) → c < containerSlots → containerOk m c ≡ true
-  unfolding registryIn
   container-pass c l =
-      let s = registryIn m .model .settings in
-      container-passes s m c (ap (validContainer s) (sym (container-slot m c l)) ∙ accepted .entries .container c) (formed-container m (formed-entries m e) c l)
+      let s = modelIn m .settings in
+      container-passes s m c (ap (validContainer s) (sym (container-slot m c l)) ∙ f .entries .container c) (formed-container m f c l)
 
   policy-pass : (q : ℕ) → q < policySlots → policyOk m q ≡ true
-  unfolding registryIn
   policy-pass q l =
-      let s = registryIn m .model .settings in
-      policy-passes s m q (ap (validPolicy s) (sym (policy-slot m q l)) ∙ accepted .entries .policy q) (formed-policy m (formed-entries m e) q l)
+      let s = modelIn m .settings in
+      policy-passes s m q (ap (validPolicy s) (sym (policy-slot m q l)) ∙ f .entries .policy q) (formed-policy m f q l)
 
   settings-pass : validSettings (settingsIn m) ≡ true
-  unfolding registryIn modelIn
-  settings-pass = accepted .entries .settings
+  unfolding modelIn
+  settings-pass = f .entries .settings
 
-  tests-pass : tests m ≡ true
+  tests-pass : BitsStand (registryIn m) → tests m ≡ true
   unfolding tests containersOk policiesOk matrixOk setsOk registryIn
-  tests-pass =
-      let a = accepted in
+  tests-pass a =
       let c = stands (modelIn m .containers) in
       let p = stands (modelIn m .policies) in
       and-passes _ _ settings-pass
@@ -180,12 +174,8 @@ module _ (m : List ℕ) (e : wellFormed m ≡ true) where
 tests-formed : (m : List ℕ) → Whole m → ((k : ℕ) → wordAt m k < 2 ^ 64) → tests m ≡ wellFormed m
 tests-formed m w fit =
     same-test (tests m) (wellFormed m)
-    (λ t. memory-formed m (record {
-      whole = w;
-      acceptable = tests-acceptable m t;
-      canonical = sym (image-written (registryIn m) m (entries-hold m (tests-entries m t w)) fit);
-    }))
-    (λ e. tests-pass m e)
+    (λ t. formed-apart m fit .1 (tests-entries m t w, tests-stand m t))
+    (λ e. let h = formed-apart m fit .0 e in tests-pass m (h .0) (h .1))
 
 -- no memory of another size is well formed
 pub not-whole : (m : List ℕ) → (Whole m → ⊥) → wellFormed m ≡ false

@@ -24,7 +24,8 @@ use Rattle.formed.proofs.Formed.{formed-memory, acceptable-image}
 use Rattle.steps.specs.MemoryStep.{memoryStep}
 use Rattle.steps.specs.Refinement.{StaysFormed}
 use Rattle.steps.proofs.Refinement.{step-image}
-use Rattle.steps.proofs.Valid.{acceptable-of, acceptable-computed, valid-kept}
+use Rattle.formed.proofs.Apart.{acceptable-of}
+use Rattle.steps.proofs.Valid.{acceptable-computed, valid-kept}
 
 module _ (r : Registry) (ok : Acceptable r) where
   clear : BitsStand r

@@ -11,16 +11,13 @@ use Rattle.model.specs.Table.{at}
 use Rattle.model.specs.Model.{containerSlots, policySlots, Model, empty}
 use Rattle.model.specs.Calls.{Call}
 use Rattle.model.specs.ModelStep.{modelStep}
-use Rattle.model.specs.Registry.{Registry, computed}
-use Rattle.model.proofs.Clear.{BitsStand, computed-clear}
+use Rattle.model.specs.Registry.{computed}
+use Rattle.model.proofs.Clear.{computed-clear}
 use Rattle.model.proofs.Kept.{Kept, step-keeps}
 use Rattle.model.proofs.Agreement.{Sized, sized-empty}
 use Rattle.formed.specs.Registry.{freeOr, ValidEntries, Acceptable}
+use Rattle.formed.proofs.Apart.{acceptable-of}
 use Rattle.formed.proofs.Placed.{valid-container-placed, valid-policy-placed}
-
--- valid entries, and no bit of a free slot
-pub acceptable-of : (r : Registry) → ValidEntries (r .model) → BitsStand r → Acceptable r
-acceptable-of r valid clear = record { entries = valid; matrix = clear .matrix; selected = clear .selected; allowed = clear .allowed }
 
 pub acceptable-computed : (m : Model) → ValidEntries m → Acceptable (computed m)
 unfolding computed
