@@ -48,9 +48,9 @@ acceptable-test r ok =
     ap₂ _&&_ (v .settings)
     (ap₂ _&&_ (all-each (validContainer (m .settings)) none (m .containers) (λ i l. v .container i))
     (ap₂ _&&_ (all-each (validPolicy (m .settings)) none (m .policies) (λ i l. v .policy i))
-    (ap₂ _&&_ (standing-test containerSlots containerSlots c c (r .bits .matrix) (ok .matrix))
-    (ap₂ _&&_ (standing-test policySlots containerSlots p c (r .bits .selected) (ok .selected))
-    (standing-test policySlots containerSlots p c (r .bits .allowed) (ok .allowed))))))
+    (ap₂ _&&_ (standing-test containerSlots containerSlots c c (r .bits .matrix) (ok .bits .matrix))
+    (ap₂ _&&_ (standing-test policySlots containerSlots p c (r .bits .selected) (ok .bits .selected))
+    (standing-test policySlots containerSlots p c (r .bits .allowed) (ok .bits .allowed))))))
 
 -- tables of their sizes, and no bit beyond them
 pub record InTables (r : Registry) : Type 0 where
@@ -79,9 +79,11 @@ in-tables-acceptable r b e =
         container = table-each (λ x. validEntry (m .settings) (container x)) (m .containers) (e2 .0);
         policy = table-each (λ x. validEntry (m .settings) (policy x)) (m .policies) (e3 .0);
       };
-      matrix = λ i j t. let l = b .matrix i j t in test-standing containerSlots containerSlots c c (r .bits .matrix) (e4 .0) i j (l .0) (l .1) t;
-      selected = λ i j t. let l = b .selected i j t in test-standing policySlots containerSlots p c (r .bits .selected) (e5 .0) i j (l .0) (l .1) t;
-      allowed = λ i j t. let l = b .allowed i j t in test-standing policySlots containerSlots p c (r .bits .allowed) (e5 .1) i j (l .0) (l .1) t;
+      bits = record {
+        matrix = λ i j t. let l = b .matrix i j t in test-standing containerSlots containerSlots c c (r .bits .matrix) (e4 .0) i j (l .0) (l .1) t;
+        selected = λ i j t. let l = b .selected i j t in test-standing policySlots containerSlots p c (r .bits .selected) (e5 .0) i j (l .0) (l .1) t;
+        allowed = λ i j t. let l = b .allowed i j t in test-standing policySlots containerSlots p c (r .bits .allowed) (e5 .1) i j (l .0) (l .1) t;
+      };
     }
 
 -- ---- tables read from a memory have their sizes, and bits beyond them are clear

@@ -147,9 +147,9 @@ acceptable-in-tables : (r : Registry) → Acceptable r → InTables r
 acceptable-in-tables r ok = record {
   containers = ok .entries .containers;
   policies = ok .entries .policies;
-  matrix = λ a b e. both-in (r .model .containers) containerSlots (ok .entries .containers) a b (ok .matrix a b e);
-  selected = λ q c e. both-in (r .model .policies) policySlots (ok .entries .policies) q c (ok .selected q c e);
-  allowed = λ q c e. both-in (r .model .policies) policySlots (ok .entries .policies) q c (ok .allowed q c e);
+  matrix = λ a b e. both-in (r .model .containers) containerSlots (ok .entries .containers) a b (ok .bits .matrix a b e);
+  selected = λ q c e. both-in (r .model .policies) policySlots (ok .entries .policies) q c (ok .bits .selected q c e);
+  allowed = λ q c e. both-in (r .model .policies) policySlots (ok .entries .policies) q c (ok .bits .allowed q c e);
 }
   where
     both-in : {A : Type 0} (t : Table A) (n : ℕ) → length t ≡ n → (x c : ℕ) → (stands t x && stands (r .model .containers) c) ≡ true → (x < n) × (c < containerSlots)

@@ -14,7 +14,7 @@ use Rattle.block.specs.Written.{validSettings}
 use Rattle.model.specs.Table.{at, stands}
 use Rattle.model.specs.Model.{containerSlots, policySlots}
 use Rattle.model.proofs.Lists.{denied}
-use Rattle.model.proofs.Clear.{BitsStand}
+use Rattle.model.specs.Registry.{BitsStand}
 use Rattle.store.specs.Layout.{settingsSize, containersStart, containerWords, policiesStart, policyWords, rowsStart, containerStart, policyStart, selectedRow, allowedRow, Whole, wordAt, rowBit}
 use Rattle.store.proofs.Cases.{by-ltb}
 use Rattle.formed.specs.Words.{settingsWord, containerWord, policyWord, settingsIn}

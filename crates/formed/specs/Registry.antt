@@ -10,7 +10,7 @@ use Rattle.block.specs.Entry.{Container, Policy, Settings, container, policy}
 use Rattle.block.specs.Written.{validSettings, validEntry}
 use Rattle.model.specs.Table.{all, at, stands, below}
 use Rattle.model.specs.Model.{containerSlots, policySlots, Model, Bits}
-use Rattle.model.specs.Registry.{Registry}
+use Rattle.model.specs.Registry.{Registry, BitsStand}
 use Rattle.store.specs.Layout.{memoryWords, rowsStart, Whole, containersStart, containerWords, policiesStart, policyWords, matrixBand, selectedBand, allowedBand, bandIndex, inBand, selectedRow, allowedRow, wordAt, rowBit}
 use Rattle.store.specs.Contents.{Contents, tab, imageOf}
 use Rattle.formed.specs.Words.{settingsWord, containerWord, policyWord, settingsIn, containerIn, policyIn}
@@ -107,9 +107,7 @@ pub record ValidEntries (m : Model) : Type 0 where
 -- Of the registry: no bit beyond the tables either.
 pub record Acceptable (r : Registry) : Type 0 where
   pub entries : ValidEntries (r .model)
-  pub matrix : (a b : ℕ) → r .bits .matrix a b ≡ true → (stands (r .model .containers) a && stands (r .model .containers) b) ≡ true
-  pub selected : (q c : ℕ) → r .bits .selected q c ≡ true → (stands (r .model .policies) q && stands (r .model .containers) c) ≡ true
-  pub allowed : (q c : ℕ) → r .bits .allowed q c ≡ true → (stands (r .model .policies) q && stands (r .model .containers) c) ≡ true
+  pub bits : BitsStand r
 
 -- The words of settings and slots are those of valid entries. Nothing is asked of the rows: what reads entries needs no more, also in the
 -- middle of a change, when the bits do not agree with the entries yet.

@@ -7,7 +7,7 @@ use Prim.Native.Nat.{ℕ}
 use Rattle.block.specs.Entry.{Container, Policy}
 use Rattle.model.specs.Table.{on, at, stands}
 use Rattle.model.specs.Model.{Model}
-use Rattle.model.specs.Registry.{Registry, computed, changeContainer, changePolicy}
+use Rattle.model.specs.Registry.{Registry, BitsStand, computed, changeContainer, changePolicy}
 use Rattle.model.proofs.Changes.{entriesAfter, setBits, bitsAfter}
 use Rattle.model.proofs.Book.{Book, BookLaws, BitPlace, matrix, selected, allowed, EntryChange, containerBecomes, policyBecomes}
 use Rattle.model.proofs.Book.{putEntry, bitByRules, touchedBy, bookChanges, off-pair, other-container, other-policy}
@@ -67,12 +67,6 @@ module _ {S P : Type 0} (B : Book S P) (laws : BookLaws B) where
   changes-clear s (c ∷ cs) old h = changes-clear (putEntry B s c) cs (setBits (bookChanges B) s c old) (change-clear s c old h)
 
 -- ---- the registry
-
--- Every bit set is of standing slots.
-pub record BitsStand (r : Registry) : Type 0 where
-  pub matrix : (a b : ℕ) → r .bits .matrix a b ≡ true → (stands (r .model .containers) a && stands (r .model .containers) b) ≡ true
-  pub selected : (q c : ℕ) → r .bits .selected q c ≡ true → (stands (r .model .policies) q && stands (r .model .containers) c) ≡ true
-  pub allowed : (q c : ℕ) → r .bits .allowed q c ≡ true → (stands (r .model .policies) q && stands (r .model .containers) c) ≡ true
 
 -- the bits of a registry by their places
 abbrev storedAt : Registry → BitPlace → Bool

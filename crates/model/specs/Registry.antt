@@ -1,11 +1,11 @@
 -- The registry: entries and stored bits, and how an accepted change sets them.
 use mathlib.Core.Path.{_≡_}
-use mathlib.Core.Bool.{Bool, false, _&&_, _||_, cond, Bool·beq}
+use mathlib.Core.Bool.{Bool, true, false, _&&_, _||_, cond, Bool·beq}
 use mathlib.Core.Option.{Option}
 use Prim.Native.Nat.{ℕ, _<_}
 use lib.Dec.{eqb}
 use Rattle.block.specs.Entry.{Container, ingress, egress, Policy, Settings}
-use Rattle.model.specs.Table.{all, on, at, below}
+use Rattle.model.specs.Table.{all, on, at, stands, below}
 use Rattle.model.specs.Rules.{selects, sameDirection}
 use Rattle.model.specs.Model.{containerSlots, policySlots, Model, empty, withContainer, withPolicy, Bits, computedBits}
 
@@ -39,6 +39,12 @@ pub record FollowsRules (r : Registry) : Type 0 where
   pub matrix : Agree containerSlots containerSlots (r .bits .matrix) (computedBits (r .model) .matrix)
   pub selected : Agree policySlots containerSlots (r .bits .selected) (computedBits (r .model) .selected)
   pub allowed : Agree policySlots containerSlots (r .bits .allowed) (computedBits (r .model) .allowed)
+
+-- "no kept bit set for an empty place": every bit set is of standing slots
+pub record BitsStand (r : Registry) : Type 0 where
+  pub matrix : (a b : ℕ) → r .bits .matrix a b ≡ true → (stands (r .model .containers) a && stands (r .model .containers) b) ≡ true
+  pub selected : (q c : ℕ) → r .bits .selected q c ≡ true → (stands (r .model .policies) q && stands (r .model .containers) c) ≡ true
+  pub allowed : (q c : ℕ) → r .bits .allowed q c ≡ true → (stands (r .model .policies) q && stands (r .model .containers) c) ≡ true
 
 -- ---- the changes: "an accepted change sets these bits by the rules from the entries as they then stand, and changes no other
 -- kept bit"

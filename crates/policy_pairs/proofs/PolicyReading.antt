@@ -29,11 +29,11 @@ module _ (m : List ℕ) (ok : wellFormed m ≡ true) where
   -- "no kept bit set for an empty place"
   pub selected-stands : (q c : ℕ) → bitsIn m .selected q c ≡ true → containersStand m c ≡ true
   unfolding registryIn
-  selected-stands q c e = both (policiesStand m q) (containersStand m c) (formed-memory m ok .acceptable .selected q c e) .1
+  selected-stands q c e = both (policiesStand m q) (containersStand m c) (formed-memory m ok .acceptable .bits .selected q c e) .1
 
   pub allowed-stands : (q c : ℕ) → bitsIn m .allowed q c ≡ true → containersStand m c ≡ true
   unfolding registryIn
-  allowed-stands q c e = both (policiesStand m q) (containersStand m c) (formed-memory m ok .acceptable .allowed q c e) .1
+  allowed-stands q c e = both (policiesStand m q) (containersStand m c) (formed-memory m ok .acceptable .bits .allowed q c e) .1
 
 -- ---- directions
 

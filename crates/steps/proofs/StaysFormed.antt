@@ -16,7 +16,7 @@ use Rattle.model.specs.Calls.{Call, openWith, change, admit, removeContainer, r
 use Rattle.model.specs.Registry.{Registry, changeContainer, changePolicy, rebuilt}
 use Rattle.model.specs.Refusals.{refusals}
 use Rattle.model.specs.RegistryStep.{admitContainer, admitPolicy, admitEntry, takePolicy, acceptedStep, unlessRefused, registryStep}
-use Rattle.model.proofs.Clear.{BitsStand, container-clear, policy-clear}
+use Rattle.model.proofs.Clear.{container-clear, policy-clear}
 use Rattle.model.proofs.Consistent.{opened-computed}
 use Rattle.model.proofs.Refused.{both-passed}
 use Rattle.formed.specs.Registry.{registryIn, ValidEntries, Acceptable, wellFormed}
@@ -24,21 +24,16 @@ use Rattle.formed.proofs.Formed.{formed-memory, acceptable-image}
 use Rattle.steps.specs.MemoryStep.{memoryStep}
 use Rattle.steps.specs.Refinement.{StaysFormed}
 use Rattle.steps.proofs.Refinement.{step-image}
-use Rattle.formed.proofs.Apart.{acceptable-of}
 use Rattle.steps.proofs.Valid.{acceptable-computed, valid-kept}
 
 module _ (r : Registry) (ok : Acceptable r) where
-  clear : BitsStand r
-  clear = record { matrix = ok .matrix; selected = ok .selected; allowed = ok .allowed }
-
-  -- an entry that comes or goes
   container-stays : (c : ℕ) (x : Option Container) → ValidEntries (withContainer (r .model) c x) → Acceptable (changeContainer r c x)
   unfolding changeContainer
-  container-stays c x valid = acceptable-of (changeContainer r c x) valid (container-clear r c x clear)
+  container-stays c x valid = record { entries = valid; bits = container-clear r c x (ok .bits) }
 
   policy-stays : (q : ℕ) (p : Policy) (x : Option Policy) → ValidEntries (withPolicy (r .model) q x) → Acceptable (changePolicy r q p x)
   unfolding changePolicy
-  policy-stays q p x valid = acceptable-of (changePolicy r q p x) valid (policy-clear r q p x clear)
+  policy-stays q p x valid = record { entries = valid; bits = policy-clear r q p x (ok .bits) }
 
   -- each call that no check refuses
   admit-container-stays : (b : List ℕ) (x : Container) (o : Option ℕ) → AcceptedAs (r .model .settings) b (container x) → Acceptable (admitContainer r x o .0)

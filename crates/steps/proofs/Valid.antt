@@ -16,12 +16,11 @@ use Rattle.model.proofs.Clear.{computed-clear}
 use Rattle.model.proofs.Kept.{Kept, step-keeps}
 use Rattle.model.proofs.Agreement.{Sized, sized-empty}
 use Rattle.formed.specs.Registry.{freeOr, ValidEntries, Acceptable}
-use Rattle.formed.proofs.Apart.{acceptable-of}
 use Rattle.formed.proofs.Placed.{valid-container-placed, valid-policy-placed}
 
 pub acceptable-computed : (m : Model) → ValidEntries m → Acceptable (computed m)
 unfolding computed
-acceptable-computed m valid = acceptable-of (computed m) valid (computed-clear m)
+acceptable-computed m valid = record { entries = valid; bits = computed-clear m }
 
 -- ---- every call leaves valid entries
 
