@@ -1,29 +1,38 @@
 """The same from Python, over a shared library made of the static one:
   rt staticlib registry_c
   cc -shared -o libbihokura.so -Wl,--whole-archive target/staticlib/libregistry_c.a -Wl,--no-whole-archive
-  python3 examples/from_python.py ./libbihokura.so < examples/printed-sheet.blocks
+  python3 examples/from_python.py ./libbihokura.so saved.blocks < examples/printed-sheet.blocks
 """
 import ctypes
 import sys
 
-library = ctypes.CDLL(sys.argv[1])
+if len(sys.argv) != 3:
+    sys.exit("usage: from_python.py LIBRARY FILE < BLOCKS")
+library, name = ctypes.CDLL(sys.argv[1]), sys.argv[2]
 u64, size = ctypes.c_uint64, ctypes.c_size_t
-for name in ("words", "open", "admit", "counts", "findings"):
-    getattr(library, "bihokura_" + name).restype = u64
+for call in ("words", "open", "admit", "counts", "findings", "audit", "write"):
+    getattr(library, "bihokura_" + call).restype = u64
 
 words = library.bihokura_words()
-memory = (u64 * words)()
-first = True
-while block := sys.stdin.buffer.read(512):
-    call = library.bihokura_open if first else library.bihokura_admit
-    answer = call(memory, size(words), block, size(len(block)))
-    if answer >> 56:
-        print("refused with", answer >> 56)
-    first = False
-counts = library.bihokura_counts(memory, size(words))
-if counts >> 56:
-    sys.exit("no registry was opened")
-print("containers", counts & 0xFFFF, "policies", counts >> 16 & 0xFFFF, "pairs", counts >> 32)
+
+
+def registry(file):
+    """A memory with the registry of a file, its containers, policies and pairs."""
+    memory = (u64 * words)()
+    call = library.bihokura_open
+    while block := file.read(512):
+        answer = call(memory, size(words), block, size(len(block)))
+        if answer >> 56:
+            print("refused with", answer >> 56)
+        call = library.bihokura_admit
+    counts = library.bihokura_counts(memory, size(words))
+    if counts >> 56:
+        sys.exit("no registry was opened")
+    return memory, (counts & 0xFFFF, counts >> 16 & 0xFFFF, counts >> 32)
+
+
+memory, counts = registry(sys.stdin.buffer)
+print("containers {} policies {} pairs {}".format(*counts))
 room, last = 256, 0
 numbers = (u64 * room)()
 put = room
@@ -32,3 +41,19 @@ while put == room:
     put = library.bihokura_findings(memory, size(words), *place, numbers, size(room))
     for last in numbers[:put]:
         print(last >> 32, last >> 16 & 0xFFFF, last & 0xFFFF)
+
+length = 512 * (1 + counts[0] + counts[1])
+buffer = (ctypes.c_uint8 * length)()
+written = library.bihokura_write(memory, size(words), buffer, size(length))
+if written >> 56:
+    sys.exit("the registry was not written")
+try:
+    with open(name, "wb") as file:
+        file.write(bytes(buffer[:written]))
+    with open(name, "rb") as file:
+        again, counted = registry(file)
+except OSError as error:
+    sys.exit(f"{name}: {error.strerror}")
+print("written", written, "bytes; read back: containers {} policies {} pairs {}".format(*counted))
+audits = [library.bihokura_audit(m, size(words)) for m in (memory, again)]
+print("the same counts:", int(counted == counts), "the same audit:", int(audits[0] == audits[1]))

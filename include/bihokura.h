@@ -1,11 +1,11 @@
 /* Bihokura: a proved register of containers and network policies.
  *
- * Every function takes the memory as a pointer and its number of 64-bit words, a block as a pointer and its length in bytes, a
- * list as a pointer and how many numbers it has room for, and answers one number. Its top byte is the refusal's number of
- * document 01, 0 where the call was accepted; a refused call answers nothing else and leaves everything lent as it was. Below
- * the top byte stands what the call answers. No function keeps a pointer. Memory of any size and any contents may be handed
- * over, and blocks and lists of any length; a pointer has to be valid for its length, and what one call is lent may not overlap.
- * Nothing is allocated; a call takes less than 80 KiB of stack (docs/LINKING.md).
+ * Every function takes the memory as a pointer and its number of 64-bit words, a block or a buffer for blocks as a pointer and its
+ * length in bytes, a list as a pointer and how many numbers it has room for, and answers one number. Its top byte is the refusal's
+ * number of document 01 or, from 13 on, of 02, 0 where the call was accepted; a refused call answers nothing else and leaves
+ * everything lent as it was. Below the top byte stands what the call answers. No function keeps a pointer. Memory of any size and
+ * any contents may be handed over, and blocks, buffers and lists of any length; a pointer has to be valid for its length, and what
+ * one call is lent may not overlap. Nothing is allocated; a call takes less than 80 KiB of stack (docs/LINKING.md).
  */
 #ifndef BIHOKURA_H
 #define BIHOKURA_H
@@ -53,6 +53,11 @@ uint64_t bihokura_rebuild(uint64_t *memory, size_t words);
 
 /* Whether every stored bit equals the rules: 1 or 0. */
 uint64_t bihokura_audit(const uint64_t *memory, size_t words);
+
+/* Writes the registry into the buffer, in blocks of 512 bytes: the settings, then each standing container by slot, then each
+ * standing policy by slot. Answers how many bytes it used; the rest of the buffer is kept. A buffer of fewer bytes is refused with
+ * 13. Opened with the first block, the others admitted, a memory holds the same entries in the same order, slots closed up. */
+uint64_t bihokura_write(const uint64_t *memory, size_t words, uint8_t *bytes, size_t length);
 
 #ifdef __cplusplus
 }

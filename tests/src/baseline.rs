@@ -622,3 +622,61 @@ pub fn findings(m: &[u64], after: Finding, list: &mut [u64]) -> u64 {
 pub fn next_finding(m: &[u64], after: Finding) -> u64 {
     answer(tested(m).map(|()| next_after(m, after)))
 }
+
+// ---- the file
+
+type Block = [u8; 512];
+
+/// The labels of a part, from byte `at` on. Answers what they add to the checksum's sum.
+fn put_labels(b: &mut Block, at: usize, words: &[u64]) -> u32 {
+    let mut sum = 0;
+    for (k, (to, w)) in b[at..].as_chunks_mut().0.iter_mut().zip(words).enumerate() {
+        *to = (*w as u32).to_be_bytes();
+        // the high byte of a key is 0
+        sum += (1..4).map(|i| u32::from(to[i]) * (at + 4 * k + i + 1) as u32).sum::<u32>();
+    }
+    sum
+}
+
+fn put_checksum(b: &mut Block, sum: u32) {
+    b[510..].copy_from_slice(&((sum % 65521) as u16).to_be_bytes());
+}
+
+fn put_settings(b: &mut Block, m: &[u64]) {
+    let value = (m[SYSTEM_VALUE] as u16).to_be_bytes();
+    let front = [83, m[USER_KEY] as u8, m[SYSTEM_KEY] as u8, 0, value[0], value[1]];
+    b.fill(0);
+    b[..6].copy_from_slice(&front);
+    put_checksum(b, front.into_iter().zip(1..).map(|(x, i)| u32::from(x) * i).sum());
+}
+
+fn put_container(b: &mut Block, slot: &[u64; CONTAINER_WORDS]) {
+    let n = slot[0] as usize - 1;
+    b.fill(0);
+    b[..4].copy_from_slice(&[67, n as u8, 0, 0]);
+    let labels = put_labels(b, 4, &slot[1..=n]);
+    put_checksum(b, 67 + 2 * n as u32 + labels);
+}
+
+fn put_policy(b: &mut Block, slot: &[u64; POLICY_WORDS]) {
+    let (d, s, a) = (slot[0], slot[SELECT] as usize - 1, slot[ALLOW] as usize - 1);
+    b.fill(0);
+    b[..4].copy_from_slice(&[80, d as u8, s as u8, a as u8]);
+    let select = put_labels(b, 4, &slot[SELECT + 1..=SELECT + s]);
+    let allow = put_labels(b, 4 + 4 * s, &slot[ALLOW + 1..=ALLOW + a]);
+    put_checksum(b, 80 + 2 * d as u32 + 3 * s as u32 + 4 * a as u32 + select + allow);
+}
+
+pub fn write(m: &[u64], bytes: &mut [u8]) -> u64 {
+    answer((|| {
+        tested(m)?;
+        let containers = m[CONTAINERS..POLICIES].as_chunks().0.iter().filter(|slot| slot[0] != 0);
+        let policies = m[POLICIES..ROWS].as_chunks().0.iter().filter(|slot| slot[0] != 0);
+        let length = 512 * (1 + containers.clone().count() + policies.clone().count());
+        let mut blocks = bytes.get_mut(..length).ok_or(13u64)?.as_chunks_mut().0.iter_mut();
+        put_settings(blocks.next().unwrap(), m);
+        containers.zip(&mut blocks).for_each(|(slot, block)| put_container(block, slot));
+        policies.zip(&mut blocks).for_each(|(slot, block)| put_policy(block, slot));
+        Ok(length as u64)
+    })())
+}

@@ -15,6 +15,7 @@ extern "C" {
     fn bihokura_counts(memory: *const u64, words: usize) -> u64;
     fn bihokura_rebuild(memory: *mut u64, words: usize) -> u64;
     fn bihokura_audit(memory: *const u64, words: usize) -> u64;
+    fn bihokura_write(memory: *const u64, words: usize, bytes: *mut u8, length: usize) -> u64;
 }
 
 pub fn words() -> usize {
@@ -63,4 +64,8 @@ pub fn rebuild(memory: &mut [u64]) -> u64 {
 
 pub fn audit(memory: &[u64]) -> u64 {
     unsafe { bihokura_audit(memory.as_ptr(), memory.len()) }
+}
+
+pub fn write(memory: &[u64], bytes: &mut [u8]) -> u64 {
+    unsafe { bihokura_write(memory.as_ptr(), memory.len(), bytes.as_mut_ptr(), bytes.len()) }
 }

@@ -3,7 +3,7 @@
 use crate::answers::{outcome, Finding};
 use crate::bytes::{self, Pair, EGRESS, INGRESS};
 use crate::c;
-use crate::layout::{CONTAINER_SLOTS, POLICY_SLOTS, WORDS};
+use crate::layout::{CONTAINERS, CONTAINER_SLOTS, POLICIES, POLICY_SLOTS, SETTINGS_WORDS, WORDS};
 use crate::random::Random;
 use crate::reference::{Call, Register};
 use std::ops::RangeInclusive;
@@ -82,8 +82,15 @@ pub fn findings(r: &mut Random, n: usize) -> Call {
     Call::Findings(cursor(r), r.words(n))
 }
 
+/// A buffer for a file: of as many bytes as a file of some entries has, or about that, or of none, or of more than any file has.
+fn buffer(r: &mut Random) -> Vec<u8> {
+    let blocks = 512 * (1 + r.below(24) as usize);
+    let n = *r.pick(&[blocks, blocks, blocks - 1, blocks + 1, blocks + 300, 0, 200_000]);
+    r.bytes(n)
+}
+
 pub fn call(r: &mut Random) -> Call {
-    match r.below(32) {
+    match r.below(34) {
         0..=8 => Call::Admit(container(r)),
         9..=13 => Call::Admit(policy(r)),
         14 | 31 => Call::Admit(damaged(r)),
@@ -96,6 +103,7 @@ pub fn call(r: &mut Random) -> Call {
         26 => Call::Rebuild,
         27 => Call::Audit,
         28 => Call::Open(if r.once_in(3) { settings(r) } else { damaged(r) }),
+        32 | 33 => Call::Write(buffer(r)),
         _ => {
             let n = if r.once_in(3) { *r.pick(&LISTS) } else { r.below(40) as usize };
             findings(r, n)
@@ -147,3 +155,28 @@ pub fn disordered(r: &mut Random, memory: &[u64]) -> Vec<u64> {
     }
     register.encode()
 }
+
+pub fn in_step_or_not(r: &mut Random, entries: usize) -> Vec<u64> {
+    let m = memory(r, entries);
+    if r.once_in(2) {
+        disordered(r, &m)
+    } else {
+        m
+    }
+}
+
+/// A bit or two changed, anywhere or where entries stand.
+pub fn flip(r: &mut Random, m: &mut [u64]) {
+    for _ in 0..=r.below(2) {
+        let at = match r.below(5) {
+            0 => r.below(SETTINGS_WORDS as u64),
+            1 => CONTAINERS as u64 + r.below(120),
+            2 => POLICIES as u64 + r.below(60),
+            _ => r.below(WORDS as u64),
+        };
+        let bits = if r.once_in(2) { 3 } else { 64 };
+        m[at as usize] ^= 1 << r.below(bits);
+    }
+}
+
+pub const OTHER_SIZES: [usize; 7] = [0, 1, 3, 100, WORDS - 1, WORDS + 1, 2 * WORDS];

@@ -1,5 +1,5 @@
-//! Tests of the register over its C interface, against a register written separately from document 01. Each test has a fixed number
-//! of cases; `CASES=10 cargo test --release` goes through ten times as many of the random ones.
+//! Tests of the register over its C interface, against a register written separately from documents 01 and 02. Each test has a
+//! fixed number of cases; `CASES=10 cargo test --release` goes through ten times as many of the random ones.
 
 pub mod answers;
 pub mod baseline;

@@ -35,6 +35,11 @@ impl Random {
     pub fn words(&mut self, n: usize) -> Vec<u64> {
         (0..n).map(|_| self.number()).collect()
     }
+
+    /// So many random bytes.
+    pub fn bytes(&mut self, n: usize) -> Vec<u8> {
+        self.words(n.div_ceil(8)).into_iter().flat_map(u64::to_le_bytes).take(n).collect()
+    }
 }
 
 struct Named<T: Display>(T);

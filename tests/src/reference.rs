@@ -1,6 +1,8 @@
-//! A register written separately from document 01, for comparison: plain vectors, every rule by its sentence, no thought of speed.
+//! A register written separately from documents 01 and 02, for comparison: plain vectors, every rule by its sentence, no thought of
+//! speed.
 
 use crate::answers::{answer, code, counted, Finding};
+use crate::bytes::{self, Pair};
 use crate::layout::{self, *};
 
 #[derive(Clone, Copy, PartialEq, Eq, Debug, PartialOrd, Ord)]
@@ -330,6 +332,23 @@ impl Register {
         list
     }
 
+    // ---- the file
+
+    /// The settings block, the standing containers by place, then the policies by place.
+    pub fn file(&self) -> Vec<u8> {
+        let pairs = |labels: &[Label]| -> Vec<Pair> { labels.iter().map(|l| (l.key as u16, l.value as u16)).collect() };
+        let s = &self.settings;
+        let mut file = bytes::settings(s.user_key as u8, s.system_key as u8, s.system_value as u16);
+        for x in self.containers.iter().flatten() {
+            file.extend(bytes::container(&pairs(x)));
+        }
+        for p in self.policies.iter().flatten() {
+            let direction = if p.direction == Direction::Ingress { bytes::INGRESS } else { bytes::EGRESS };
+            file.extend(bytes::policy(direction, &pairs(&p.select), &pairs(&p.allow)));
+        }
+        file
+    }
+
     // ---- the memory
 
     pub fn encode(&self) -> Vec<u64> {
@@ -435,6 +454,8 @@ pub enum Call {
     Counts,
     Rebuild,
     Audit,
+    /// With the bytes of the buffer that is lent.
+    Write(Vec<u8>),
 }
 
 impl Call {
@@ -445,26 +466,35 @@ impl Call {
             _ => Vec::new(),
         }
     }
+
+    /// The buffer that the call is lent; no other call than `Write` is lent one.
+    pub fn bytes(&self) -> Vec<u8> {
+        match self {
+            Call::Write(bytes) => bytes.clone(),
+            _ => Vec::new(),
+        }
+    }
 }
 
-/// What a call leaves of the memory and of the list it was lent, and its answer.
+/// What a call leaves of the memory, the list and the buffer it was lent, and its answer.
 #[derive(Clone, PartialEq, Eq, Debug)]
 pub struct Left {
     pub memory: Vec<u64>,
     pub list: Vec<u64>,
+    pub bytes: Vec<u8>,
     pub answer: u64,
 }
 
 pub fn step(memory: &[u64], call: &Call) -> Left {
-    let mut list = call.list();
-    match changed(memory, call, &mut list) {
-        Ok((r, value)) => Left { memory: r.encode(), list, answer: answer(Ok(value)) },
-        Err(n) => Left { memory: memory.to_vec(), list, answer: answer(Err(n)) },
+    let (mut list, mut bytes) = (call.list(), call.bytes());
+    match changed(memory, call, &mut list, &mut bytes) {
+        Ok((r, value)) => Left { memory: r.encode(), list, bytes, answer: answer(Ok(value)) },
+        Err(n) => Left { memory: memory.to_vec(), list, bytes, answer: answer(Err(n)) },
     }
 }
 
 /// The register that an accepted call leaves, and the value that it answers.
-fn changed(memory: &[u64], call: &Call, list: &mut [u64]) -> Result<(Register, u64), u64> {
+fn changed(memory: &[u64], call: &Call, list: &mut [u64], bytes: &mut [u8]) -> Result<(Register, u64), u64> {
     if memory.len() != WORDS {
         return Err(1);
     }
@@ -472,7 +502,7 @@ fn changed(memory: &[u64], call: &Call, list: &mut [u64]) -> Result<(Register, u
         return Ok((Register::opened(read_settings(block)?), 0));
     }
     let mut r = Register::decode(memory).ok_or(2u64)?;
-    let value = run(&mut r, call, list)?;
+    let value = run(&mut r, call, list, bytes)?;
     Ok((r, value))
 }
 
@@ -486,7 +516,7 @@ fn slot(table: usize, stands: impl Fn(usize) -> bool, i: u64) -> Result<usize, u
     Ok(i as usize)
 }
 
-fn run(r: &mut Register, call: &Call, list: &mut [u64]) -> Result<u64, u64> {
+fn run(r: &mut Register, call: &Call, list: &mut [u64], bytes: &mut [u8]) -> Result<u64, u64> {
     match call {
         Call::Open(_) => unreachable!(),
         Call::Admit(block) => match read_entry(block)? {
@@ -540,5 +570,13 @@ fn run(r: &mut Register, call: &Call, list: &mut [u64]) -> Result<u64, u64> {
             Ok(0)
         }
         Call::Audit => Ok(u64::from(r.is_consistent())),
+        Call::Write(_) => {
+            let file = r.file();
+            if bytes.len() < file.len() {
+                return Err(13);
+            }
+            bytes[..file.len()].copy_from_slice(&file);
+            Ok(file.len() as u64)
+        }
     }
 }

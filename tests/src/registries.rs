@@ -28,6 +28,9 @@ pub fn settings() -> Vec<u8> {
     bytes::settings(1, 2, 1)
 }
 
+/// The bytes of a full registry's file.
+pub const FILE: usize = 512 * (1 + CONTAINER_SLOTS + POLICY_SLOTS);
+
 impl Registry {
     fn new(name: &'static str, mut container: impl FnMut() -> Vec<Pair>, mut part: impl FnMut() -> Vec<Pair>) -> Registry {
         Registry {

@@ -4,6 +4,7 @@
 use crate::baseline::{self, Algorithms, ByLabels, ByTrials};
 use crate::c;
 use crate::reference::{self, Call, Left};
+use std::fmt::LowerHex;
 
 /// What answers calls on a memory.
 pub type Side = fn(&[u64], &Call) -> Left;
@@ -11,7 +12,7 @@ pub type Side = fn(&[u64], &Call) -> Left;
 /// The call of a module that has a function for each; some of them have a parameter for the algorithms.
 macro_rules! made {
     ($side:ident $(, $by:ty)?; $memory:expr, $call:expr) => {{
-        let (mut memory, mut list) = ($memory.to_vec(), $call.list());
+        let (mut memory, mut list, mut bytes) = ($memory.to_vec(), $call.list(), $call.bytes());
         let m = &mut memory[..];
         let answer = match $call {
             Call::Open(block) => $side::open$(::<$by>)?(m, block),
@@ -25,8 +26,9 @@ macro_rules! made {
             Call::Counts => $side::counts(m),
             Call::Rebuild => $side::rebuild$(::<$by>)?(m),
             Call::Audit => $side::audit$(::<$by>)?(m),
+            Call::Write(_) => $side::write(m, &mut bytes),
         };
-        Left { memory, list, answer }
+        Left { memory, list, bytes, answer }
     }};
 }
 
@@ -41,6 +43,12 @@ fn on_baseline<A: Algorithms>(memory: &[u64], call: &Call) -> Left {
 pub const BASELINES: [Side; 2] = [on_baseline::<ByLabels>, on_baseline::<ByTrials>];
 pub const ALL: [Side; 3] = [on_c, BASELINES[0], BASELINES[1]];
 
+/// The first place at which two lists of one length differ.
+fn difference<T: PartialEq + LowerHex>(what: &str, found: &[T], expected: &[T]) -> Option<String> {
+    let i = found.iter().zip(expected).position(|(x, y)| x != y)?;
+    Some(format!("{what} {i} is {:#x}, expected {:#x}", found[i], expected[i]))
+}
+
 /// What the call leaves by the reference, or how a side differs from it.
 fn left(sides: &[Side], memory: &[u64], call: &Call) -> Result<Left, String> {
     let expected = reference::step(memory, call);
@@ -49,10 +57,11 @@ fn left(sides: &[Side], memory: &[u64], call: &Call) -> Result<Left, String> {
         if found.answer != expected.answer {
             return Err(format!("side {k}: answer {:#x}, expected {:#x}", found.answer, expected.answer));
         }
-        for (what, x, y) in [("word", &found.memory, &expected.memory), ("number", &found.list, &expected.list)] {
-            if let Some(i) = (0..y.len()).find(|i| x[*i] != y[*i]) {
-                return Err(format!("side {k}: {what} {i} is {:#x}, expected {:#x}", x[i], y[i]));
-            }
+        let how = difference("word", &found.memory, &expected.memory)
+            .or_else(|| difference("number", &found.list, &expected.list))
+            .or_else(|| difference("byte", &found.bytes, &expected.bytes));
+        if let Some(how) = how {
+            return Err(format!("side {k}: {how}"));
         }
     }
     Ok(expected)
@@ -97,6 +106,7 @@ fn show(call: &Call) -> String {
         Call::Open(b) => format!("  open {}", front(b)),
         Call::Admit(b) => format!("  admit {}", front(b)),
         Call::Findings(after, list) => format!("  findings after {after:?}, a list of {}", list.len()),
+        Call::Write(bytes) => format!("  write into {} bytes", bytes.len()),
         other => format!("  {other:?}"),
     }
 }

@@ -3,7 +3,7 @@
 
 use crate::answers::outcome;
 use crate::c;
-use crate::registries::{self, settings, Registry};
+use crate::registries::{self, settings, Registry, FILE};
 use std::arch::asm;
 use std::hint::black_box;
 
@@ -40,7 +40,7 @@ fn taken(m: &mut [u64], call: Work) -> (usize, u64) {
 
 /// The name of each exported call and the bytes of stack that it takes on this registry.
 pub fn calls(r: &Registry) -> Vec<(&'static str, usize)> {
-    let (full, opening, mut list) = (r.memory(), settings(), vec![0; 256]);
+    let (full, opening, mut list, mut file) = (r.memory(), settings(), vec![0; 256], vec![0; FILE]);
     let (c, q) = (registries::containers().next().unwrap(), registries::policies().next().unwrap());
     let with = |from: &[u64], refusal: Option<u64>, call: Work| {
         let (bytes, answer) = taken(&mut from.to_vec(), call);
@@ -71,6 +71,7 @@ pub fn calls(r: &Registry) -> Vec<(&'static str, usize)> {
         ("bihokura_counts", accepted(&mut |m| c::counts(m))),
         ("bihokura_rebuild", accepted(&mut |m| c::rebuild(m))),
         ("bihokura_audit", accepted(&mut |m| c::audit(m))),
+        ("bihokura_write", accepted(&mut |m| c::write(m, &mut file))),
     ]
 }
 

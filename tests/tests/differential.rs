@@ -2,8 +2,10 @@
 
 use bihokura_tests::answers::{code, finding, outcome, refused, Finding, START};
 use bihokura_tests::bytes::{self, EGRESS, INGRESS};
-use bihokura_tests::cases::{calls, cursor, damaged, disordered, findings, memory, settings, LISTS};
-use bihokura_tests::layout::{CONTAINERS, CONTAINER_SLOTS, POLICIES, POLICY_SLOTS, SETTINGS_WORDS, WORDS};
+use bihokura_tests::cases::{
+    calls, cursor, damaged, disordered, findings, flip, in_step_or_not, memory, settings, LISTS, OTHER_SIZES,
+};
+use bihokura_tests::layout::{CONTAINER_SLOTS, POLICY_SLOTS, WORDS};
 use bihokura_tests::random::{case, seeds, Random};
 use bihokura_tests::reference::{step, Call, Register};
 use bihokura_tests::sides::{check, on_c, ALL};
@@ -50,20 +52,6 @@ fn damaged_blocks() {
     assert!(accepted > 0, "no damaged block was accepted: too much damage to test anything else");
 }
 
-/// A bit or two changed, anywhere or where entries stand.
-fn flip(r: &mut Random, m: &mut [u64]) {
-    for _ in 0..=r.below(2) {
-        let at = match r.below(5) {
-            0 => r.below(SETTINGS_WORDS as u64),
-            1 => CONTAINERS as u64 + r.below(120),
-            2 => POLICIES as u64 + r.below(60),
-            _ => r.below(WORDS as u64),
-        };
-        let bits = if r.once_in(2) { 3 } else { 64 };
-        m[at as usize] ^= 1 << r.below(bits);
-    }
-}
-
 #[test]
 fn damaged_memories() {
     let mut refusals = 0;
@@ -79,8 +67,6 @@ fn damaged_memories() {
     assert!(refusals > 100, "damage was seldom noticed");
 }
 
-const OTHER_SIZES: [usize; 7] = [0, 1, 3, 100, WORDS - 1, WORDS + 1, 2 * WORDS];
-
 #[test]
 fn memories_of_another_size() {
     for size in OTHER_SIZES {
@@ -89,7 +75,8 @@ fn memories_of_another_size() {
             let m = r.words(size);
             for call in calls(&mut r, 200) {
                 let left = on_c(&m, &call);
-                assert!((left.answer, left.memory, left.list) == (refused(1), m.clone(), call.list()), "{call:?}");
+                let (lent, kept) = ((&m, call.list(), call.bytes()), (&left.memory, left.list, left.bytes));
+                assert!(left.answer == refused(1) && lent == kept, "{call:?}");
             }
         });
     }
@@ -101,6 +88,7 @@ fn zeros_are_not_well_formed() {
     assert_eq!(c::counts(&m), refused(2));
     assert_eq!(c::audit(&m), refused(2));
     assert_eq!(c::findings(&m, START, &mut []), refused(2));
+    assert_eq!(c::write(&m, &mut []), refused(2));
 }
 
 /// Here the benchmarks' baselines are held to the reference too.
@@ -199,15 +187,6 @@ fn walk_by_lists(r: &mut Random, m: &[u64], most: usize) -> Vec<u64> {
         },
     );
     met
-}
-
-fn in_step_or_not(r: &mut Random, entries: usize) -> Vec<u64> {
-    let m = memory(r, entries);
-    if r.once_in(2) {
-        disordered(r, &m)
-    } else {
-        m
-    }
 }
 
 #[test]
@@ -317,6 +296,7 @@ fn a_query_changes_nothing() {
         Call::Findings(START, r.words(10)),
         Call::Counts,
         Call::Audit,
+        Call::Write(r.bytes(30_000)),
     ] {
         assert_eq!(on_c(&m, &call).memory, m, "{call:?}");
     }

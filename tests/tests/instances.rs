@@ -156,6 +156,17 @@ fn filling(r: &mut Run) {
     r.ask(78, Call::Counts);
 }
 
+fn writing(r: &mut Run) {
+    let room = |n: usize| Call::Write(vec![0; n]);
+    r.ask(79, room(1025));
+    r.open(80, settings(1, 2, 9));
+    r.ask(81, room(511));
+    r.ask(82, room(512));
+    r.admit(83, container(&run_of(2, 1)));
+    r.ask(84, room(1023));
+    r.ask(85, room(1025));
+}
+
 /// Against the stored output of the program. `INSTANCES=write` writes that file anew.
 #[test]
 fn stored_output_is_the_reference_s() {
@@ -166,6 +177,7 @@ fn stored_output_is_the_reference_s() {
     asking(&mut r);
     freeing(&mut r);
     filling(&mut r);
+    writing(&mut r);
     let file = concat!(env!("CARGO_MANIFEST_DIR"), "/../crates/instances/stdout");
     if std::env::var("INSTANCES").is_ok_and(|v| v == "write") {
         std::fs::write(file, &r.written).unwrap();

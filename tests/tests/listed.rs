@@ -5,23 +5,31 @@ use bihokura_tests::answers::{code, counted, refused, Finding, START};
 use bihokura_tests::bytes::{container, policy, sealed, settings, Pair, EGRESS, INGRESS};
 use bihokura_tests::layout::WORDS;
 use bihokura_tests::reference::{step, Call};
+use bihokura_tests::sheet::printed;
 use bihokura_tests::sides::{on_c, Side};
 
 static ZEROS: [u64; WORDS + 1] = [0; WORDS + 1];
 
-/// A call with its answer and what it puts into its list. It is lent so many words: our memory, or zeros of another size.
-struct Line(usize, Call, u64, Vec<u64>);
+/// A call with its answer, what it puts into its list and what it writes into its buffer. It is lent so many words: our memory, or
+/// zeros of another size.
+struct Line(usize, Call, u64, Vec<u64>, Vec<u8>);
 
-/// What stands in a list before it is lent.
-const BEFORE: u64 = 77;
+/// What stands in a list or a buffer before it is lent.
+const BEFORE: u8 = 77;
 
 fn listed() -> Vec<Line> {
-    let ours = |call, answer| Line(WORDS, call, answer, vec![]);
-    let other = |n, call| Line(n, call, refused(1), vec![]);
+    let ours = |call, answer| Line(WORDS, call, answer, vec![], vec![]);
+    let other = |n, call| Line(n, call, refused(1), vec![], vec![]);
     let found = |after, next| ours(Call::NextFinding(after), code(next));
     let none = |after| ours(Call::NextFinding(after), 0);
-    let listing = |after, room| Call::Findings(after, vec![BEFORE; room]);
-    let puts = |call, put: &[Finding]| Line(WORDS, call, put.len() as u64, put.iter().copied().map(code).collect());
+    let listing = |after, room| Call::Findings(after, vec![u64::from(BEFORE); room]);
+    let puts = |call, put: &[Finding]| Line(WORDS, call, put.len() as u64, put.iter().copied().map(code).collect(), vec![]);
+    let writing = |room| Call::Write(vec![BEFORE; room]);
+    // of the printed blocks, those of these numbers
+    let writes = |call, numbers: &[usize]| {
+        let file: Vec<u8> = numbers.iter().flat_map(|n| printed()[512 * n..512 * n + 512].to_vec()).collect();
+        Line(WORDS, call, file.len() as u64, vec![], file)
+    };
     let con = |labels: &[Pair]| Call::Admit(container(labels));
     let pol = |d, s: &[Pair], a: &[Pair]| Call::Admit(policy(d, s, a));
     let mut unchecked = vec![0; 512];
@@ -30,6 +38,8 @@ fn listed() -> Vec<Line> {
         ours(Call::Counts, counted(0, 0, 0)),
         none(START),
         puts(listing(START, 3), &[]),
+        ours(writing(511), refused(13)),
+        writes(writing(512), &[0]),
         ours(Call::RemoveContainer(0), refused(11)),
         ours(con(&[(1, 11), (3, 1)]), 0),
         other(WORDS - 1, con(&[(1, 11), (3, 2)])),
@@ -48,6 +58,9 @@ fn listed() -> Vec<Line> {
         puts(listing((3, 2, 0), 0), &[]),
         puts(listing((7, 2, 1), 1), &[]),
         other(WORDS - 1, listing(START, 3)),
+        ours(writing(4095), refused(13)),
+        writes(writing(5000), &[0, 1, 2, 3, 4, 5, 6, 7]),
+        other(WORDS - 1, writing(5000)),
         ours(Call::Reaches(1, 0), 0),
         ours(Call::Reaches(2, 1), 1),
         ours(Call::Reaches(4, 256), refused(10)),
@@ -72,6 +85,7 @@ fn listed() -> Vec<Line> {
         ours(Call::Reaches(1, 0), 1),
         ours(Call::RemoveContainer(0), 0),
         ours(Call::Reaches(0, 1), refused(11)),
+        writes(writing(3072), &[0, 2, 3, 4, 5, 6]),
         ours(con(&[]), 0),
         ours(Call::Counts, counted(4, 2, 13)),
         found((5, 65535, 65535), (7, 1, 1)),
@@ -98,12 +112,13 @@ fn run(call: Side) {
     let opened = call(&memory, &Call::Open(settings(1, 2, 9)));
     assert_eq!(opened.answer, 0);
     let mut memory = opened.memory;
-    for (i, Line(size, asked, answer, put)) in listed().into_iter().enumerate() {
+    for (i, Line(size, asked, answer, put, file)) in listed().into_iter().enumerate() {
         let left = call(if size == WORDS { &memory } else { &ZEROS[..size] }, &asked);
         assert_eq!(left.answer, answer, "call {i}: {asked:?}");
-        let mut list = asked.list();
+        let (mut list, mut bytes) = (asked.list(), asked.bytes());
         list[..put.len()].copy_from_slice(&put);
-        assert_eq!(left.list, list, "call {i}: {asked:?}");
+        bytes[..file.len()].copy_from_slice(&file);
+        assert!(left.list == list && left.bytes == bytes, "call {i}: {asked:?}");
         if size == WORDS {
             memory = left.memory;
         } else {

@@ -27,6 +27,8 @@ fn the_printed_example() {
     calls.extend(blocks.map(Call::Admit).chain([Call::Counts, Call::Audit]));
     let (m, answers) = run(&calls);
     assert_eq!(answers, [0, 0, 1, 2, 3, 0, 1, 2, counted(4, 3, 11), 1]);
+    let written = step(&m, &Call::Write(vec![7; 4100]));
+    assert!(written.answer == 4096 && written.bytes == [printed(), vec![7; 4]].concat());
     let found = Register::decode(&m).unwrap().findings();
     let expected = [(3, 0, 2), (3, 0, 3), (3, 2, 0), (3, 2, 1), (3, 2, 3), (3, 3, 0), (3, 3, 2), (4, 3, 1), (5, 1, 0), (7, 2, 1)];
     assert_eq!(found, expected);
@@ -42,8 +44,9 @@ fn checks_and_refusals() {
         Call::Admit(container(&[(3, 1), (1, 1)])),
         Call::Reaches(255, 0),
         Call::Reaches(256, 0),
+        Call::Write(vec![7; 511]),
     ]);
-    assert_eq!(answers, [0, refused(7), refused(8), refused(11), refused(10)]);
+    assert_eq!(answers, [0, refused(7), refused(8), refused(11), refused(10), refused(13)]);
 }
 
 /// The stored blocks are those that the program `printed_sheet` writes.

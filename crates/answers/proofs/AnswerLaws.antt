@@ -3,8 +3,11 @@ use mathlib.Core.Path.{_≡_, sym, ap, ap₂, _∙_}
 use mathlib.Core.Bool.{false}
 use mathlib.Core.List.{List}
 use Prim.Native.Nat.{ℕ}
+use native.Mathlib.Nat.{zero-add}
+use lib.ListN.{length}
 use Rattle.model.specs.Findings.{Place}
-use Rattle.buffer.specs.Buffer.{overwritten}
+use Rattle.buffer.specs.Buffer.{overwritten, Puts}
+use Rattle.buffer.proofs.BufferLaws.{puts-start}
 use Rattle.model.specs.Calls.{Call, Answer, refusal, written}
 use Rattle.steps.specs.MemoryStep.{changes, memoryStep}
 use Rattle.steps.proofs.Refused.{refused-unchanged, query-unchanged}
@@ -22,7 +25,9 @@ use Rattle.answers.specs.declared.FindingsPut.{FindingsPut}
 use Rattle.answers.specs.declared.FindingsPut.the-variants as put
 use Rattle.answers.specs.declared.Counted.{Counted}
 use Rattle.answers.specs.declared.Counted.the-variants as counts
-use Rattle.answers.specs.Answers.{outcomeAnswer, replyAnswer, admittedAnswer, nextAnswer, putAnswer, countPut, countedAnswer}
+use Rattle.answers.specs.declared.FilePut.{FilePut}
+use Rattle.answers.specs.declared.FilePut.the-variants as file
+use Rattle.answers.specs.Answers.{outcomeAnswer, replyAnswer, admittedAnswer, nextAnswer, putAnswer, countPut, countedAnswer, fileAnswer, countBytes}
 
 -- ---- no two say the same
 
@@ -83,6 +88,32 @@ counted-injective (counts.Refused m) (counts.Refused n) e = cc
 counted-injective (counts.Refused m) (counts.Counts a b n) e = cc
 counted-injective (counts.Counts a b n) (counts.Refused m) e = cc
 counted-injective (counts.Counts a b n) (counts.Counts c d k) e = cc
+
+-- whatever the buffers that the file was put into
+file-injective : (x y : FilePut) (d e : List ℕ) → fileAnswer x d ≡ fileAnswer y e → countBytes x ≡ countBytes y → x ≡ y
+file-injective (file.Refused m) (file.Refused n) d e h k = cc
+file-injective (file.Refused m) (file.Bytes j) d e h k = cc
+file-injective (file.Bytes i) (file.Refused n) d e h k = cc
+file-injective (file.Bytes i) (file.Bytes j) d e h k = ap file.Bytes k
+
+-- ---- calls that write into another buffer that they are lent
+
+module _ (m : List ℕ) (call : Call) where
+  -- what such a call promises: of its answer, of how much it wrote, and of the buffer d, which it leaves as e
+  abbrev pub Promised : List ℕ → List ℕ → Answer → ℕ → Type 0
+  Promised d e a k =
+      let s = memoryStep m call in
+      ((m, a) ≡ s) × ((k ≡ length (written (s .1))) × (e ≡ overwritten d (written (s .1))))
+
+  pub promised-refused : (d : List ℕ) (n : ℕ) → memoryStep m call ≡ (m, refusal n) → Promised d d (refusal n) 0
+  unfolding overwritten
+  promised-refused d n h = (sym h, (ap (λ s. length (written (s .1))) (sym h), ap (λ s. overwritten d (written (s .1))) (sym h)))
+
+  pub promised-put : {d e : List ℕ} {k : ℕ} (a b : Answer) → a ≡ b → memoryStep m call ≡ (m, b) → Puts d 0 (written b) e k → Promised d e a k
+  promised-put {d} {e} {k} a b q h g = (
+    ap (λ (x : Answer). (m, x)) q ∙ sym h,
+    (g .stops ∙ zero-add _ ∙ ap (λ s. length (written (s .1))) (sym h), puts-start g ∙ ap (λ s. overwritten d (written (s .1))) (sym h)),
+  )
 
 -- ---- what a call leaves alone
 

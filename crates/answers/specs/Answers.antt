@@ -2,7 +2,7 @@
 use mathlib.Core.List.{List}
 use Prim.Native.Nat.{ℕ}
 use lib.ListN.{take}
-use Rattle.model.specs.Calls.{Answer, refusal, done, containerAt, policyAt, says, found, noFinding, findingsPut, counted}
+use Rattle.model.specs.Calls.{Answer, refusal, done, containerAt, policyAt, says, found, noFinding, findingsPut, counted, filePut}
 use Rattle.findings.specs.Steps.{cursorPlace}
 use Rattle.answers.specs.declared.Outcome.{Outcome}
 use Rattle.answers.specs.declared.Outcome.the-variants as outcome
@@ -16,6 +16,8 @@ use Rattle.answers.specs.declared.FindingsPut.{FindingsPut}
 use Rattle.answers.specs.declared.FindingsPut.the-variants as put
 use Rattle.answers.specs.declared.Counted.{Counted}
 use Rattle.answers.specs.declared.Counted.the-variants as counts
+use Rattle.answers.specs.declared.FilePut.{FilePut}
+use Rattle.answers.specs.declared.FilePut.the-variants as file
 
 abbrev pub outcomeAnswer : Outcome → Answer
 outcomeAnswer (outcome.Refused n) = refusal n
@@ -51,3 +53,13 @@ countPut (put.Findings k c) = k
 abbrev pub countedAnswer : Counted → Answer
 countedAnswer (counts.Refused n) = refusal n
 countedAnswer (counts.Counts a b k) = counted a b k
+
+-- the bytes put, which stand at the start of the buffer as it was left
+abbrev pub fileAnswer : FilePut → List ℕ → Answer
+fileAnswer (file.Refused n) e = refusal n
+fileAnswer (file.Bytes k) e = filePut (take k e)
+
+-- "and says how many it used"
+abbrev pub countBytes : FilePut → ℕ
+countBytes (file.Refused n) = 0
+countBytes (file.Bytes k) = k

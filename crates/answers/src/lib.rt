@@ -41,3 +41,9 @@ pub enum Counted {
     Refused(u8),
     Counts(u64, u64, u64),
 }
+
+// How many bytes of the buffer hold the file.
+pub enum FilePut {
+    Refused(u8),
+    Bytes(usize),
+}

@@ -7,3 +7,4 @@ pub mod LabelLists
 pub mod Accepted
 pub mod Sealed
 pub mod Written
+pub mod Cut

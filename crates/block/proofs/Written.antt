@@ -100,6 +100,14 @@ settings-reads s v =
     let w = sealed-unused front h 6 (omega arith) in
     record { long = sealed-length front h; checked = sealed-checked front h; kind = rw sealed-begins; ranges = clear-none _ (settings-clear b ∙ ap validSettings q ∙ v); unused = rw (z, w); says = sym q }
 
+-- each block has its 512 bytes
+pub written-length : (s : Settings) (e : Entry) → validEntry s e ≡ true → length (blockOf e) ≡ 512
+written-length s e v = entry-reads s e v .long
+
+pub settings-length : (s : Settings) → length (settingsBlock s) ≡ 512
+unfolding settingsBlock
+settings-length s = sealed-length (83 ∷ s .userKey ∷ s .systemKey ∷ 0 ∷ numberBytes (s .systemValue)) (omega arith)
+
 pub written-read : (s : Settings) (e : Entry) → validEntry s e ≡ true → readEntry s (blockOf e) ≡ accepted e
 written-read s e v = entry-accepted s (blockOf e) e .1 (entry-reads s e v)
 

@@ -6,4 +6,5 @@ pub mod Fault
 pub mod Refusal
 pub mod Reader
 pub mod Written
+pub mod Cut
 pub mod Reading

@@ -1,4 +1,4 @@
-// Document 01's numbers of the refusals.
+// The numbers of the refusals: document 01, and from 13 on document 02.
 pub const MEMORY_SIZE: u8 = 1;
 
 pub const NOT_WELL_FORMED: u8 = 2;
@@ -22,3 +22,5 @@ pub const BEYOND_TABLE: u8 = 10;
 pub const FREE_SLOT: u8 = 11;
 
 pub const TABLE_FULL: u8 = 12;
+
+pub const BUFFER_LENGTH: u8 = 13;

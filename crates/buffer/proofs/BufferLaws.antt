@@ -1,12 +1,13 @@
 -- What is put into a buffer, piece after piece.
 use mathlib.Core.Path.{_≡_, sym, ap, ap₂, _∙_, subst}
 use mathlib.Core.List.{List, [], _∷_, _++_, append-assoc, append-nil}
-use Prim.Native.Nat.{ℕ, suc, _+_, _≤_, _<_}
+use Prim.Native.Nat.{ℕ, suc, _+_, _-_, _≤_, _<_}
 use native.Mathlib.Omega.{arith}
 use native.Mathlib.Numerals.{add-one}
 use native.Mathlib.Nat.{add-zero, zero-add}
 use lib.ListN.{length, take, drop, getD, set, length-append, length-drop, take-append-drop}
 use lib.Seq.{length-take-le, take-length, take-suc, drop-cons, append-snoc, drop-append-add, drop-drop, set-at, take-at}
+use borrow.Rule.Slice.PartMut.{putMid, postOf, post-is}
 use Rattle.buffer.specs.Buffer.{overwritten, Puts}
 
 pub puts-none : {d : List ℕ} {at : ℕ} → at ≤ length d → Puts d at [] d at
@@ -57,6 +58,17 @@ module _ {d t e : List ℕ} {at stop : ℕ} (g : Puts d at t e stop) where
             ∙ drop-drop (length u) stop d ∙ ap (λ (k : ℕ). drop k d) (sym n))
             ∙ ap (λ (x : List ℕ). x ++ drop r d) (append-assoc (take at d) t u);
       }
+
+-- a part that was lent, and holds t when it is back
+pub puts-lent : {d t part : List ℕ} (at stop : ℕ) → at ≤ stop → stop ≤ length d → length t ≡ stop - at → part ≡ t → Puts d at t (putMid at (stop - at) d part) stop
+puts-lent {d} {t} at stop h r n q = record {
+  stops = omega arith;
+  room = r;
+  text =
+      ap (λ (l : List ℕ). take at d ++ (l ++ postOf at (stop - at) d)) q
+      ∙ ap (λ (l : List ℕ). take at d ++ (t ++ l)) (post-is at stop d h)
+      ∙ sym (append-assoc (take at d) t (drop stop d));
+}
 
 -- ---- a list, copied one after another
 

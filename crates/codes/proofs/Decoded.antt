@@ -8,9 +8,9 @@ use Rattle.block.specs.Entry.{Entry, container, policy}
 use Rattle.block.specs.Reader.{entrySaid}
 use Rattle.model.specs.declared.Finding.{Finding}
 use Rattle.model.specs.Findings.{Place, placeOf, moved, findingCode}
-use Rattle.model.specs.Calls.{askReaches, askUser, nextFinding, listFindings, counts, audit}
+use Rattle.model.specs.Calls.{askReaches, askUser, nextFinding, listFindings, counts, audit, write}
 use Rattle.model.specs.Calls.{Call, openWith, change, admit, removeContainer, removePolicy, rebuild, ask}
-use Rattle.model.specs.Calls.{Answer, refusal, done, containerAt, policyAt, says, found, noFinding, findingsPut, counted, written}
+use Rattle.model.specs.Calls.{Answer, refusal, done, containerAt, policyAt, says, found, noFinding, findingsPut, counted, filePut, written}
 use Rattle.model.proofs.Lists.{All}
 use Rattle.findings.proofs.Walk.{SmallPlace}
 use Rattle.codes.specs.Codes.{refusalCode, countsCode, truthCode, codeOf}
@@ -53,6 +53,7 @@ acceptedAs (ask (nextFinding c)) w n = foundOf n
 acceptedAs (ask (listFindings c k)) w n = findingsPut w (moved c (map findingOf w))
 acceptedAs (ask counts) w n = countedOf n
 acceptedAs (ask audit) w n = says (truthOf n)
+acceptedAs (ask (write k)) w n = filePut w
 
 -- the refusal of that number, or a where it is 0
 abbrev pub refusalOr : ℕ → Answer → Answer
@@ -157,6 +158,13 @@ pub top-put : (l : List Finding) (c : Place) → topByte (written (findingsPut (
 unfolding topByte
 top-put [] c = omega arith
 top-put (g ∷ l) c = refl
+
+-- ---- a file
+
+pub top-file : (w : List ℕ) → topByte (written (filePut w)) (codeOf (filePut w)) ≡ 0
+unfolding topByte
+top-file [] = omega arith
+top-file (x ∷ w) = refl
 
 -- ---- counts
 

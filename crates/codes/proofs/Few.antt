@@ -1,22 +1,15 @@
 -- A list of a table's slots is no longer than the table, so what a memory counts is small.
 use mathlib.Core.Bool.{Bool, true, false, cond}
 use mathlib.Core.List.{List, [], _∷_}
-use mathlib.Core.Option.{none, some}
 use Prim.Native.Nat.{ℕ, suc, _+_, _*_, _≤_}
 use native.Mathlib.Omega.{arith}
 use lib.ListN.{length}
-use Rattle.model.specs.Table.{Table, count, standingFrom, below}
+use Rattle.model.specs.Table.{count, below}
 use Rattle.model.specs.Model.{containerSlots, Bits}
 use Rattle.model.specs.Findings.{containersOf, policiesOf, pairsIn, pairs}
-use Rattle.model.proofs.Lists.{length-up}
+use Rattle.model.proofs.Lists.{length-up, standing-few}
 use Rattle.formed.specs.Registry.{modelIn, bitsIn}
 use Rattle.steps.proofs.Outcomes.{sized-in}
-
-module _ {A : Type 0} where
-  standing-few : (i : ℕ) (t : Table A) → length (standingFrom i t) ≤ length t
-  standing-few i [] = omega arith
-  standing-few i (none ∷ t) = let h = standing-few (suc i) t in omega arith
-  standing-few i (some x ∷ t) = let h = standing-few (suc i) t in omega arith
 
 count-few : (f : ℕ → Bool) (l : List ℕ) → count f l ≤ length l
 count-few f [] = omega arith

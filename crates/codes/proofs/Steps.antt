@@ -19,9 +19,10 @@ use Rattle.block.specs.Reader.{entrySaid}
 use Rattle.model.specs.declared.Finding.{Finding}
 use Rattle.model.specs.Table.{all, at, lowestFree}
 use Rattle.model.specs.Findings.{Place, containersOf, policiesOf, findings, placeOf, walk, moved, findingCode, pairs}
-use Rattle.model.specs.Calls.{askReaches, askUser, nextFinding, listFindings, counts, audit}
+use Rattle.model.specs.Calls.{askReaches, askUser, nextFinding, listFindings, counts, audit, write}
 use Rattle.model.specs.Calls.{Call, openWith, change, admit, removeContainer, removePolicy, rebuild, ask}
-use Rattle.model.specs.Calls.{Answer, refusal, done, containerAt, policyAt, says, noFinding, found, findingsPut, counted, foundAnswer, findingsAnswer, written}
+use Rattle.model.specs.Calls.{Answer, refusal, done, containerAt, policyAt, says, noFinding, found, findingsPut, counted, filePut, foundAnswer, findingsAnswer, written}
+use Rattle.model.specs.File.{fileOf}
 use Rattle.model.specs.RegistryStep.{admitContainer, admitPolicy, admitEntry, takePolicy, answerTo, acceptedStep}
 use Rattle.model.proofs.Lists.{All}
 use Rattle.model.proofs.Findings.{FromKind, all-listed, findings-from}
@@ -35,7 +36,7 @@ use Rattle.codes.specs.Codes.{codeOf}
 use Rattle.steps.proofs.Outcomes.{container-slot-below, policy-slot-below}
 use Rattle.codes.proofs.Few.{containers-few, policies-few, pairs-fit}
 use Rattle.codes.proofs.Decoded.{findingOf, countedOf, foundOf, truthOf, slotOf, acceptedAs, decoded, Decodes, decodes-refusal, decodes-accepted, InRange}
-use Rattle.codes.proofs.Decoded.{top-done, top-none, top-container, top-policy, top-truth, truth-back, top-found, none-back, found-back, top-put, findings-back, top-counted, counted-back}
+use Rattle.codes.proofs.Decoded.{top-done, top-none, top-container, top-policy, top-truth, truth-back, top-found, none-back, found-back, top-put, findings-back, top-counted, counted-back, top-file}
 
 -- ---- a refusal's number is not 0
 
@@ -51,6 +52,7 @@ numbers-positive (ask (nextFinding c)) = refl
 numbers-positive (ask (listFindings c n)) = refl
 numbers-positive (ask counts) = refl
 numbers-positive (ask audit) = refl
+numbers-positive (ask (write n)) = refl
 
 first-positive : (cs : List Check) → all (ltb 0) (map (λ c. c .number) cs) ≡ true → (f : Refusal) → firstRefusal cs ≡ Refused f → 0 < f .number
 first-positive [] t f e = let z : _≡_ {A = ℕ} 0 1 = cc in absurd (omega arith)
@@ -143,6 +145,7 @@ module _ (m : List ℕ) where
   decodes-step (ask (listFindings c n)) = decodes-list c (walk (nextIn m) n c) (walk-in-range m n c)
   decodes-step (ask counts) = decodes-counts
   decodes-step (ask audit) = decodes-truth _
+  decodes-step (ask (write n)) = decodes-accepted _ (filePut (fileOf (modelIn m))) (top-file (fileOf (modelIn m))) refl
 
   pub decoded-step : (call : Call) → let a = memoryStep m call .1 in decoded call (written a) (codeOf a) ≡ a
   unfolding memoryStep

@@ -1,5 +1,7 @@
 // The instances of document 01 that the proved table does not hold, and each refusal at least once, run through the calls for C.
 // Writes a line for each: the case's number, the refusal's or 0, and what else the call answered.
+ghost use Prim.Native.Nat.{_≤_};
+ghost use lib.ListN.{length};
 use libc::STDOUT_FILENO;
 use samples::Shape;
 
@@ -179,6 +181,39 @@ fn filled(memory: &mut [u64], case: u64) -> u64 {
     }
 }
 
+// So many bytes of a buffer: one too few for a file, as many as it has, and more.
+fn room(case: u64) -> usize
+    ensures { λ r. ⌜ r ≤ 1025 ⌝ }
+{
+    match case {
+        81 => 511,
+        82 => 512,
+        84 => 1023,
+        _ => 1025,
+    }
+}
+
+// A file written into the first bytes of a buffer, so many of them.
+fn write_into(memory: &[u64], bytes: &mut [u8], n: usize) -> u64
+    requires { ⌜ n ≤ length (now bytes) ⌝ }
+{
+    registry_c::bihokura_write(memory, &mut bytes[0..n])
+}
+
+fn write(memory: &[u64], case: u64) -> u64 {
+    let mut bytes = [0u8; 1025];
+    write_into(memory, &mut bytes, room(case))
+}
+
+// Files: of full tables, of no entry and of one.
+fn written(memory: &mut [u64], case: u64) -> u64 {
+    match case {
+        80 => open(memory, samples::settings(1, 2)),
+        83 => admit(memory, samples::container(2, 1)),
+        _ => write(memory, case),
+    }
+}
+
 fn answer(memory: &mut [u64], case: u64) -> u64 {
     if case < 17 {
         opened(memory, case)
@@ -190,8 +225,10 @@ fn answer(memory: &mut [u64], case: u64) -> u64 {
         asked(memory, case)
     } else if case < 64 {
         freed(memory, case)
-    } else {
+    } else if case < 79 {
         filled(memory, case)
+    } else {
+        written(memory, case)
     }
 }
 
@@ -206,7 +243,7 @@ fn run(memory: &mut [u64], case: u64) {
 
 fn run_all(memory: &mut [u64]) {
     let mut case = 1;
-    while case < 79 {
+    while case < 86 {
         run(memory, case);
         case += 1;
     }

@@ -1,11 +1,11 @@
 -- The list of calls, computed through the model's step; and so answered on every memory.
 use mathlib.Core.Path.{_≡_, refl, sym, ap, ap₂, _∙_}
-use mathlib.Core.Bool.{true, false}
+use mathlib.Core.Bool.{true, false, cond}
 use mathlib.Core.List.{List, [], _∷_, _++_, map}
 use mathlib.Core.Option.{none, some}
-use Prim.Native.Nat.{ℕ, _≤_}
+use Prim.Native.Nat.{ℕ, _+_, _*_, _≤_}
 use native.Mathlib.Omega.{arith}
-use lib.Dec.{eqb}
+use lib.Dec.{eqb, leb}
 use borrow.Author.Tests.{eq-eqb}
 use lib.ListN.{length, replicate, drop}
 use Rattle.block.specs.Entry.{Label, Direction, ingress, egress, Settings, Entry, container, policy}
@@ -26,20 +26,24 @@ use Rattle.model.specs.Model.{Model, empty, matrixBit}
 use Rattle.model.specs.Findings
 use Rattle.model.specs.Findings.{containersOf, policiesOf, pairsIn}
 use Rattle.stars.specs.Stars.{label, policyTo}
-use Rattle.model.specs.Calls.{askReaches, askUser, nextFinding, listFindings, counts, audit}
+use Rattle.model.specs.Calls.{askReaches, askUser, nextFinding, listFindings, counts, audit, write}
 use Rattle.model.specs.Calls.{Call, openWith, change, admit, removeContainer, removePolicy, rebuild, ask}
-use Rattle.model.specs.Calls.{Answer, refusal, says, counted}
+use Rattle.model.specs.Calls.{Answer, refusal, says, counted, filePut}
+use Rattle.model.specs.File
+use Rattle.model.specs.File.{fileOf}
 use Rattle.model.specs.ModelStep
 use Rattle.model.specs.ModelStep.{opening, admitting, modelAnswer, modelStep}
-use Rattle.model.proofs.Agreement.{Sized, sized-step, sized-empty}
 use Rattle.model.proofs.Pairs.{pairs-computed}
 use Rattle.store.specs.Layout.{memoryWords}
+use Rattle.formed.specs.Registry.{ValidEntries}
+use Rattle.files.proofs.FileLaws.{file-size}
 use Rattle.steps.specs.MemoryStep.{memoryStep}
 use Rattle.steps.specs.Refinement.{Lending, ours, other, Seen, onMemory, onModel, Refinement}
 use Rattle.listed.specs.Listed
 use Rattle.listed.specs.Listed.{callsOf, seenOf, listed, printedSettings, otherSettings, noLabels}
 use Rattle.listed.specs.Listed.{shortBlock, uncheckedBlock, kindBlock, nineBlock, valueBlock, orderBlock, unusedBlock, keyBlock}
 use Rattle.steps.proofs.Outcomes.{open-done}
+use Rattle.steps.proofs.Valid.{valid-empty, valid-step}
 use Rattle.steps.proofs.Refinement.{refinement}
 
 -- ---- a call, and what its block is read as
@@ -48,6 +52,8 @@ data Known : Type 0 where
   call : Call → Known
   -- counts, PAIRS counted over the standing slots, which computes
   counting : Known
+  -- a file, its length counted by its blocks, which computes
+  writing : ℕ → Known
   entry : (b : List ℕ) (o : Read Entry) → ((s : Settings) → readEntry s b ≡ o) → Known
   settings : (b : List ℕ) (o : Read Settings) → readSettings b ≡ o → Known
   elsewhere : (x : List ℕ) → (length x ≡ memoryWords → ⊥) → Call → Known
@@ -55,6 +61,7 @@ data Known : Type 0 where
 abbrev lending : Known → Lending
 lending (call c) = ours c
 lending counting = ours (ask counts)
+lending (writing n) = ours (ask (write n))
 lending (entry b o e) = ours (change (admit b))
 lending (settings b o e) = ours (openWith b)
 lending (elsewhere x e c) = other x e c
@@ -62,9 +69,13 @@ lending (elsewhere x e c) = other x e c
 abbrev countedStanding : Model → ℕ → Answer
 countedStanding m n = counted (length (containersOf m)) (length (policiesOf m)) n
 
+abbrev writtenInto : Model → ℕ → ℕ → Answer
+writtenInto m n size = cond (leb size n) (filePut (fileOf m)) (refusal 13)
+
 knownStep : Model → Known → Model × Seen
 knownStep m (call c) = let r = modelStep m c in (r .0, record { answer = r .1; other = none })
 knownStep m counting = (m, record { answer = countedStanding m (pairsIn (matrixBit m) (containersOf m) (containersOf m)); other = none })
+knownStep m (writing n) = (m, record { answer = writtenInto m n (512 * (1 + (length (containersOf m) + length (policiesOf m)))); other = none })
 knownStep m (entry b o e) = let r = admitting m o in (r .0, record { answer = r .1; other = none })
 knownStep m (settings b o e) = let r = opening m o in (r .0, record { answer = r .1; other = none })
 knownStep m (elsewhere x e c) = (m, record { answer = refusal 1; other = some x })
@@ -77,15 +88,16 @@ onKnown m (k ∷ l) = let r = knownStep m k in r .1 ∷ onKnown (r .0) l
 abbrev answered : Answer → List Seen → List Seen
 answered a l = record { answer = a; other = none } ∷ l
 
-known-run : (m : Model) → Sized m → (l : List Known) → onModel m (map lending l) .1 ≡ onKnown m l
+known-run : (m : Model) → ValidEntries m → (l : List Known) → onModel m (map lending l) .1 ≡ onKnown m l
 unfolding onModel onKnown knownStep modelStep modelAnswer
 known-run m s [] = refl
-known-run m s (call c ∷ l) = ap (answered (modelStep m c .1)) (known-run (modelStep m c .0) (sized-step m s c) l)
+known-run m s (call c ∷ l) = ap (answered (modelStep m c .1)) (known-run (modelStep m c .0) (valid-step m s c) l)
 known-run m s (counting ∷ l) = ap₂ (λ n. answered (countedStanding m n)) (pairs-computed m (s .containers)) (known-run m s l)
+known-run m s (writing n ∷ l) = ap₂ (λ k. answered (writtenInto m n k)) (file-size m s) (known-run m s l)
 known-run m s (entry b o e ∷ l) =
-    rw (← e (m .settings)) (ap (answered (modelStep m (change (admit b)) .1)) (known-run (modelStep m (change (admit b)) .0) (sized-step m s (change (admit b))) l))
+    rw (← e (m .settings)) (ap (answered (modelStep m (change (admit b)) .1)) (known-run (modelStep m (change (admit b)) .0) (valid-step m s (change (admit b))) l))
 known-run m s (settings b o e ∷ l) =
-    rw (← e) (ap (answered (modelStep m (openWith b) .1)) (known-run (modelStep m (openWith b) .0) (sized-step m s (openWith b)) l))
+    rw (← e) (ap (answered (modelStep m (openWith b) .1)) (known-run (modelStep m (openWith b) .0) (valid-step m s (openWith b)) l))
 known-run m s (elsewhere x e c ∷ l) = ap (λ t. record { answer = refusal 1; other = some x } ∷ t) (known-run m s l)
 
 -- ---- the blocks of the list
@@ -169,6 +181,8 @@ knowns =
     counting
     ∷ call (ask (nextFinding Findings.start))
     ∷ call (ask (listFindings Findings.start 3))
+    ∷ writing 511
+    ∷ writing 512
     ∷ call (change (removeContainer 0))
     ∷ containerOf (label 1 11 ∷ label 3 1 ∷ []) (λ s. refl)
     ∷ elsewhereAt 5762 refl (Listed.containerOf (label 1 11 ∷ label 3 2 ∷ []))
@@ -187,6 +201,9 @@ knowns =
     ∷ call (ask (listFindings (Listed.cursor 3 2 0) 0))
     ∷ call (ask (listFindings (Listed.cursor 7 2 1) 1))
     ∷ elsewhereAt 5762 refl (ask (listFindings Findings.start 3))
+    ∷ writing 4095
+    ∷ writing 5000
+    ∷ elsewhereAt 5762 refl (ask (write 5000))
     ∷ call (ask (askReaches 1 0))
     ∷ call (ask (askReaches 2 1))
     ∷ call (ask (askReaches 4 256))
@@ -211,6 +228,7 @@ knowns =
     ∷ call (ask (askReaches 1 0))
     ∷ call (change (removeContainer 0))
     ∷ call (ask (askReaches 0 1))
+    ∷ writing 3072
     ∷ containerOf [] (λ s. refl)
     ∷ counting
     ∷ call (ask (nextFinding (Listed.cursor 5 65535 65535)))
@@ -242,13 +260,18 @@ unfolding listed knowns containerOf policyOf reads opensWith elsewhereAt fresh
     Findings.findings Findings.kinds Findings.irrelevance Findings.needless Findings.conflict Findings.shadow Findings.among Findings.connected
     Findings.systemIsolation Findings.userCross Findings.allIsolated Findings.allReachable Findings.connects Findings.oneDirection
     Findings.isSystem Findings.sameUser Findings.nextAfter Findings.after Findings.findingCode
+    File.fileOf File.fileEntries
 computes = refl
 
 -- ---- the claims
 
+printed-valid : ValidEntries (empty printedSettings)
+unfolding Written.validSettings Reader.within
+printed-valid = valid-empty printedSettings refl
+
 -- The model answers the list as it is written.
 pub listed-answers : onModel (empty printedSettings) (callsOf listed) .1 ≡ seenOf listed
-listed-answers = ap (λ l. onModel (empty printedSettings) l .1) knowns-listed ∙ known-run (empty printedSettings) (sized-empty printedSettings) knowns ∙ computes
+listed-answers = ap (λ l. onModel (empty printedSettings) l .1) knowns-listed ∙ known-run (empty printedSettings) printed-valid knowns ∙ computes
 
 printed-read : readSettings (settingsBlock printedSettings) ≡ accepted printedSettings
 unfolding Written.validSettings Reader.within

@@ -1,7 +1,7 @@
--- One list of calls of every kind, with the refusals 1 and 3 to 12 among them, and the answers that document 01 gives them.
+-- One list of calls of every kind, with the refusals 1 and 3 to 13 among them, and the answers that documents 01 and 02 give them.
 use mathlib.Core.Path.{_≡_, refl, sym, _∙_}
 use mathlib.Core.Bool.{true, false}
-use mathlib.Core.List.{List, [], _∷_, _++_, map}
+use mathlib.Core.List.{List, [], _∷_, _++_, map, flatten}
 use mathlib.Core.Option.{none, some}
 use Prim.Native.Nat.{ℕ, zero, suc, _+_, _*_}
 use lib.Dec.{eqb}
@@ -12,10 +12,11 @@ use Rattle.block.specs.Written.{sealed, blockOf, settingsBlock}
 use Rattle.model.specs.Findings.{Place}
 use Rattle.model.specs.Findings.{finding, start}
 use Rattle.stars.specs.Stars.{label, policyTo}
-use Rattle.model.specs.Calls.{askReaches, askUser, nextFinding, listFindings, counts, audit}
+use Rattle.model.specs.Calls.{askReaches, askUser, nextFinding, listFindings, counts, audit, write}
 use Rattle.model.specs.Calls.{Call, openWith, change, admit, removeContainer, removePolicy, rebuild, ask}
-use Rattle.model.specs.Calls.{Answer, refusal, done, containerAt, policyAt, says, found, noFinding, findingsPut, counted}
+use Rattle.model.specs.Calls.{Answer, refusal, done, containerAt, policyAt, says, found, noFinding, findingsPut, counted, filePut}
 use Rattle.store.specs.Layout.{memoryWords}
+use Rattle.files.specs.Tables.{containerBlock, policyBlock}
 use Rattle.steps.specs.Refinement.{Lending, ours, other, Seen}
 
 -- A call of the list and its answer: lent our memory, or as many words of zero as are not our size.
@@ -99,6 +100,10 @@ code k a b = k * 4294967296 + a * 65536 + b
 abbrev pub puts : List ℕ → ℕ → ℕ → ℕ → Answer
 puts l k a b = findingsPut l (cursor k a b)
 
+-- these blocks were written
+abbrev pub writes : List (List ℕ) → Answer
+writes bs = filePut (flatten bs)
+
 -- ---- the list, after an open with the printed settings
 
 -- n policies without labels, from slot i on
@@ -111,6 +116,9 @@ listed =
     gives (ask counts) (counted 0 0 0)
     ∷ gives (ask (nextFinding start)) noFinding
     ∷ gives (ask (listFindings start 3)) (puts [] 0 0 0)
+    -- room for one byte too few, and for the settings block
+    ∷ gives (ask (write 511)) (refusal 13)
+    ∷ gives (ask (write 512)) (writes (settingsBlock printedSettings ∷ []))
     ∷ gives (change (removeContainer 0)) (refusal 11)
     ∷ gives (containerOf (label 1 11 ∷ label 3 1 ∷ [])) (containerAt 0)
     ∷ givesOther 5762 refl (containerOf (label 1 11 ∷ label 3 2 ∷ []))
@@ -131,6 +139,20 @@ listed =
     ∷ gives (ask (listFindings (cursor 3 2 0) 0)) (puts [] 3 2 0)
     ∷ gives (ask (listFindings (cursor 7 2 1) 1)) (puts [] 7 2 1)
     ∷ givesOther 5762 refl (ask (listFindings start 3))
+    -- its blocks again
+    ∷ gives (ask (write 4095)) (refusal 13)
+    ∷ gives (ask (write 5000))
+    (writes
+    (settingsBlock printedSettings
+    ∷ containerBlock (label 1 11 ∷ label 3 1 ∷ [])
+    ∷ containerBlock (label 1 11 ∷ label 3 2 ∷ [])
+    ∷ containerBlock (label 1 12 ∷ label 3 1 ∷ [])
+    ∷ containerBlock (label 1 99 ∷ label 2 9 ∷ [])
+    ∷ policyBlock (policyTo ingress (label 3 2 ∷ []) (label 3 1 ∷ []))
+    ∷ policyBlock (policyTo ingress (label 1 11 ∷ label 3 2 ∷ []) (label 1 11 ∷ label 3 1 ∷ []))
+    ∷ policyBlock (policyTo egress (label 3 2 ∷ []) (label 1 13 ∷ []))
+    ∷ []))
+    ∷ givesOther 5762 refl (ask (write 5000))
     ∷ gives (ask (askReaches 1 0)) (says false)
     ∷ gives (ask (askReaches 2 1)) (says true)
     -- 10 of either comes before 11
@@ -158,6 +180,16 @@ listed =
     ∷ gives (ask (askReaches 1 0)) (says true)
     ∷ gives (change (removeContainer 0)) done
     ∷ gives (ask (askReaches 0 1)) (refusal 11)
+    -- a freed slot is left out
+    ∷ gives (ask (write 3072))
+    (writes
+    (settingsBlock printedSettings
+    ∷ containerBlock (label 1 11 ∷ label 3 2 ∷ [])
+    ∷ containerBlock (label 1 12 ∷ label 3 1 ∷ [])
+    ∷ containerBlock (label 1 99 ∷ label 2 9 ∷ [])
+    ∷ policyBlock (policyTo ingress (label 3 2 ∷ []) (label 3 1 ∷ []))
+    ∷ policyBlock (policyTo ingress (label 1 11 ∷ label 3 2 ∷ []) (label 1 11 ∷ label 3 1 ∷ []))
+    ∷ []))
     -- a freed slot is used again
     ∷ gives (containerOf []) (containerAt 0)
     ∷ gives (ask counts) (counted 4 2 13)

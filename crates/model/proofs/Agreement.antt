@@ -5,9 +5,9 @@ use mathlib.Core.Logic.{_↔_}
 use mathlib.Core.List.{List, [], _∷_, _++_}
 use mathlib.Core.Option.{Option, none, some}
 use Prim.Native.Nat.{ℕ}
-use lib.Dec.{ltb}
+use lib.Dec.{leb, ltb}
 use lib.ListN.{length, length-set, length-replicate}
-use borrow.Author.Tests.{ltb-true}
+use borrow.Author.Tests.{ltb-true, ltb-false, le-leb, lt-leb}
 use Rattle.block.specs.declared.Fault.{Fault}
 use Rattle.block.specs.declared.Fault.the-variants.{Nowhere, At}
 use Rattle.block.specs.Entry.{Container, Policy, Settings, Entry, container, policy}
@@ -19,9 +19,10 @@ use Rattle.block.specs.Reader.{settingsChecks, entryChecks, settingsSaid, entry
 use Rattle.model.specs.Table.{Table, on, isFree, at, free, lowestFree}
 use Rattle.model.specs.Rules.{carries}
 use Rattle.model.specs.Model.{containerSlots, policySlots, Model, empty, withContainer, withPolicy, computedBits}
-use Rattle.model.specs.Calls.{askReaches, askUser, nextFinding, listFindings, counts, audit}
+use Rattle.model.specs.Calls.{askReaches, askUser, nextFinding, listFindings, counts, audit, write}
 use Rattle.model.specs.Calls.{Call, openWith, change, admit, removeContainer, removePolicy, rebuild, ask}
-use Rattle.model.specs.Calls.{refusal, done, containerAt, policyAt, says, run}
+use Rattle.model.specs.Calls.{refusal, done, containerAt, policyAt, says, filePut, run}
+use Rattle.model.specs.File.{fileOf}
 use Rattle.model.specs.ModelStep.{opening, placing, placingPolicy, admitting, removing, removingPolicy, asking, askingUser, modelAnswer, modelStep}
 use Rattle.model.specs.Registry.{Registry, computed, consistent, FollowsRules, changeContainer, rebuilt}
 use Rattle.model.specs.Refusals.{where0, slotChecks, pairChecks, noRoom, refusals}
@@ -161,6 +162,14 @@ module _ (m : Model) (sized : Sized m) where
   ask-user-agrees v true none = refl
   ask-user-agrees v true (some x) = refl
 
+  -- a buffer of n bytes for a file of l
+  write-agrees : (n l : ℕ) (t : Bool) → ltb n l ≡ t
+      → unlessRefused (computed m) (ask (write n)) (firstRefusal (check 13 (where0 t) ∷ []))
+      ≡ asComputed (m, cond (leb l n) (filePut (fileOf m)) (refusal 13))
+  unfolding unlessRefused acceptedStep answerTo computed
+  write-agrees n l true e = rw (lt-leb l n (ltb-true n l e))
+  write-agrees n l false e = rw (le-leb l n (ltb-false n l e))
+
   -- One call: the registry of computed bits is refused, answers and changes as the model.
   pub step-agrees : (call : Call) → registryStep (computed m) call ≡ asComputed (modelStep m call)
   unfolding modelStep modelAnswer registryStep refusals computed acceptedStep answerTo unlessRefused rebuilt readSettings readEntry
@@ -185,6 +194,7 @@ module _ (m : Model) (sized : Sized m) where
   step-agrees (ask (listFindings c n)) = refl
   step-agrees (ask counts) = refl
   step-agrees (ask audit) = ap (λ t. (computed m, says t)) (computed-consistent m)
+  step-agrees (ask (write n)) = write-agrees n (length (fileOf m)) (ltb n (length (fileOf m))) refl
 
 -- ---- every call leaves the tables their sizes
 

@@ -14,3 +14,4 @@ pub mod Clear
 pub mod Kept
 pub mod Agreement
 pub mod Refused
+pub mod File

@@ -1,7 +1,7 @@
 -- Laws of tests, lists and standing slots that the files beside this one share.
 use mathlib.Core.Path.{_≡_, refl, ap, _∙_}
 use mathlib.Core.Bool.{Bool, true, false, _&&_, _||_, cond, or-true, or-assoc, and-eq-true-iff}
-use mathlib.Core.List.{List, [], _∷_, _++_}
+use mathlib.Core.List.{List, [], _∷_, _++_, map}
 use mathlib.Core.Option.{none, some}
 use Prim.Native.Nat.{ℕ, zero, suc, _+_, _≤_, _<_}
 use native.Mathlib.Nat.{le-refl, zero-add}
@@ -77,6 +77,10 @@ module _ {A : Type 0} where
   sorted-cond R true x l h r = (h, r)
   sorted-cond R false x l h r = r
 
+pub all-mapped : {A B : Type 0} (P : B → Type 0) (f : A → B) (l : List A) → All (λ x. P (f x)) l → All P (map f l)
+all-mapped P f [] h = tt
+all-mapped P f (x ∷ l) h = (h .0, all-mapped P f l (h .1))
+
 -- ---- the standing slots
 
 abbrev pub elem : ℕ → List ℕ → Bool
@@ -105,6 +109,11 @@ module _ {A : Type 0} where
   from-elem i zero (some x ∷ t) = rw (eq-eqb (i + 0) i (omega arith))
   from-elem i (suc j) (some x ∷ t) =
       rw (ne-eqb (i + suc j) i (omega arith)) (ap (λ k. elem k (standingFrom (suc i) t)) (omega arith) ∙ from-elem (suc i) j t)
+
+  pub standing-few : (i : ℕ) (t : Table A) → length (standingFrom i t) ≤ length t
+  standing-few i [] = omega arith
+  standing-few i (none ∷ t) = let h = standing-few (suc i) t in omega arith
+  standing-few i (some x ∷ t) = let h = standing-few (suc i) t in omega arith
 
   pub standing-up : (t : Table A) → Up (standing t)
   standing-up t = from-up 0 t

@@ -22,7 +22,7 @@ use Rattle.model.specs.declared.Finding.{Finding}
 use Rattle.model.specs.Table.{all, isFree, at, free, lowestFree}
 use Rattle.model.specs.Model.{policySlots, Model}
 use Rattle.model.specs.Findings.{nextAfter}
-use Rattle.model.specs.Calls.{askReaches, askUser, nextFinding, listFindings, counts, audit}
+use Rattle.model.specs.Calls.{askReaches, askUser, nextFinding, listFindings, counts, audit, write}
 use Rattle.model.specs.Calls.{Call, openWith, change, admit, removeContainer, removePolicy, rebuild, ask}
 use Rattle.model.specs.Calls.{refusal, foundAnswer, said}
 use Rattle.model.specs.ModelStep.{modelStep}
@@ -131,6 +131,7 @@ module _ (r : Registry) (sized : Sized (r .model)) where
   accepted-answers (ask (listFindings c n)) e = refl
   accepted-answers (ask counts) e = refl
   accepted-answers (ask audit) e = refl
+  accepted-answers (ask (write n)) e = refl
 
   answered : (call : Call) (n : ℕ) (o : Tested) → firstRefusal (refusals r call) ≡ o → unlessRefused r call o .1 ≡ refusal n
       → (p : ℕ) × (firstRefusal (refusals r call) ≡ Refused (theRefusal n p))

@@ -18,6 +18,8 @@ pub data Query : Type 0 where
   listFindings : Place → ℕ → Query
   counts : Query
   audit : Query
+  -- the registry put back into blocks, into a buffer lent of so many bytes
+  write : ℕ → Query
 
 -- those that change entries or bits of a registry that stands
 pub data Change : Type 0 where
@@ -45,6 +47,8 @@ pub data Answer : Type 0 where
   findingsPut : List ℕ → Place → Answer
   -- standing containers, standing policies, PAIRS
   counted : ℕ → ℕ → ℕ → Answer
+  -- the bytes put into the buffer that was lent: how many they are, and what they hold
+  filePut : List ℕ → Answer
 
 abbrev pub foundAnswer : Option Finding → Answer
 foundAnswer none = noFinding
@@ -60,25 +64,27 @@ pub record Said : Type 0 where
   pub finding : Option (Finding × Place)
   pub put : Option (List ℕ × Place)
   pub counts : Option (ℕ × ℕ × ℕ)
+  pub file : Option (List ℕ)
 
-abbrev pub saying : Option ℕ → Option (Finding × Place) → Option (List ℕ × Place) → Option (ℕ × ℕ × ℕ) → Said
-saying r f p n = record { refused = r; finding = f; put = p; counts = n }
+abbrev pub saying : Option ℕ → Option (Finding × Place) → Option (List ℕ × Place) → Option (ℕ × ℕ × ℕ) → Option (List ℕ) → Said
+saying r f p n w = record { refused = r; finding = f; put = p; counts = n; file = w }
 
 -- The one function by cases of an answer.
 abbrev pub said : Answer → Said
-said (refusal n) = saying (some n) none none none
-said done = saying none none none none
-said (containerAt c) = saying none none none none
-said (policyAt q) = saying none none none none
-said (says t) = saying none none none none
-said (found g c) = saying none (some (g, c)) none none
-said noFinding = saying none none none none
-said (findingsPut l c) = saying none none (some (l, c)) none
-said (counted c q n) = saying none none none (some (c, q, n))
+said (refusal n) = saying (some n) none none none none
+said done = saying none none none none none
+said (containerAt c) = saying none none none none none
+said (policyAt q) = saying none none none none none
+said (says t) = saying none none none none none
+said (found g c) = saying none (some (g, c)) none none none
+said noFinding = saying none none none none none
+said (findingsPut l c) = saying none none (some (l, c)) none none
+said (counted c q n) = saying none none none (some (c, q, n)) none
+said (filePut w) = saying none none none none (some w)
 
 -- What a call writes into another buffer that it is lent.
 abbrev pub written : Answer → List ℕ
-written a = elim (said a .put) [ none ↦ [] | some p ↦ p .0 ]
+written a = elim (said a .put) [ none ↦ elim (said a .file) [ none ↦ [] | some w ↦ w ] | some p ↦ p .0 ]
 
 -- a list of calls from a state: the state at its end, and the answers
 module _ {S : Type 0} where

@@ -5,6 +5,7 @@ pub mod Rules
 pub mod Model
 pub mod Findings
 pub mod Calls
+pub mod File
 pub mod ModelStep
 pub mod Registry
 pub mod Refusals

@@ -2,7 +2,7 @@
 use mathlib.Core.Bool.{true, _&&_, cond}
 use mathlib.Core.Option.{Option, none, some}
 use Prim.Native.Nat.{ℕ}
-use lib.Dec.{ltb}
+use lib.Dec.{leb, ltb}
 use lib.ListN.{length}
 use Rattle.block.specs.Entry.{Container, Policy, Settings, Entry, container, policy}
 use Rattle.block.specs.Refusal.{Read, refused, accepted}
@@ -11,9 +11,10 @@ use Rattle.model.specs.Table.{at, lowestFree}
 use Rattle.model.specs.Rules.{carries}
 use Rattle.model.specs.Model.{containerSlots, policySlots, Model, empty, withContainer, withPolicy, computedBits}
 use Rattle.model.specs.Findings.{containersOf, policiesOf, nextAfter, walk, pairs}
-use Rattle.model.specs.Calls.{Query, askReaches, askUser, nextFinding, listFindings, counts, audit}
+use Rattle.model.specs.Calls.{Query, askReaches, askUser, nextFinding, listFindings, counts, audit, write}
 use Rattle.model.specs.Calls.{Call, openWith, change, admit, removeContainer, removePolicy, rebuild, ask}
-use Rattle.model.specs.Calls.{Answer, refusal, done, containerAt, policyAt, says, counted, foundAnswer, findingsAnswer}
+use Rattle.model.specs.Calls.{Answer, refusal, done, containerAt, policyAt, says, counted, filePut, foundAnswer, findingsAnswer}
+use Rattle.model.specs.File.{fileOf}
 
 module _ (m : Model) where
   -- "Open sets new settings and empties all places."
@@ -64,6 +65,8 @@ module _ (m : Model) where
   modelAnswer (listFindings c n) = findingsAnswer c (walk (nextAfter m (computedBits m)) n c)
   modelAnswer counts = counted (length (containersOf m)) (length (policiesOf m)) (pairs (computedBits m))
   modelAnswer audit = says true
+  -- "writes .. into lent bytes, and says how many it used"; "a buffer with too few bytes is 13"
+  modelAnswer (write n) = cond (leb (length (fileOf m)) n) (filePut (fileOf m)) (refusal 13)
 
 -- "A call goes through the checks it meets, in their order, over its arguments, these settings and these tables. Turned down,
 -- it changes nothing. Other calls, rebuild too, change nothing. Audit is answered that the book is in step; an accepted open,

@@ -3,7 +3,8 @@ use mathlib.Core.Bool.{Bool, true, not, _||_}
 use mathlib.Core.List.{List, [], _∷_, _++_}
 use Prim.Native.Nat.{ℕ}
 use mathlib.Core.Path.{_≡_}
-use lib.Dec.{leb}
+use lib.Dec.{leb, ltb}
+use lib.ListN.{length}
 use Rattle.block.specs.declared.Fault.{Fault}
 use Rattle.block.specs.declared.Fault.the-variants.{At}
 use Rattle.block.specs.Entry.{Entry, container, policy}
@@ -13,8 +14,9 @@ use Rattle.block.specs.Reader.{settingsChecks, entryChecks, entrySaid}
 use Rattle.model.specs.Table.{Table, all, free, full}
 use Rattle.model.specs.Model.{containerSlots, policySlots, Model}
 use Rattle.model.specs.Registry.{Registry}
-use Rattle.model.specs.Calls.{askReaches, askUser, nextFinding, listFindings, counts, audit}
+use Rattle.model.specs.Calls.{askReaches, askUser, nextFinding, listFindings, counts, audit, write}
 use Rattle.model.specs.Calls.{Call, openWith, change, admit, removeContainer, removePolicy, rebuild, ask}
+use Rattle.model.specs.File.{fileOf}
 
 -- a fault of no position in a block, where the condition holds
 abbrev pub where0 : Bool → Fault
@@ -37,7 +39,12 @@ unfoldable pub noRoom : Model → Entry → Bool
 noRoom m (container x) = full (m .containers)
 noRoom m (policy p) = full (m .policies)
 
--- "Open meets 1, 3, 4, 5, 7, 9. Admit meets 1 to 9 and 12. Removing and asking meet 1, 2, 10, 11. The rest meet 1 and 2."
+-- 13 of document 02, Note 1: "a buffer with too few bytes"
+abbrev pub roomCheck : List ℕ → ℕ → Check
+roomCheck file n = check 13 (where0 (ltb n (length file)))
+
+-- "Open meets 1, 3, 4, 5, 7, 9. Admit meets 1 to 9 and 12. Removing and asking meet 1, 2, 10, 11. The rest meet 1 and 2." Writing
+-- meets 1, 2, 13.
 unfoldable pub refusals : Registry → Call → List Check
 refusals r (openWith b) = settingsChecks b
 refusals r (change (admit b)) = entryChecks (r .model .settings) b ++ (check 12 (where0 (noRoom (r .model) (entrySaid b))) ∷ [])
@@ -50,6 +57,7 @@ refusals r (ask (nextFinding c)) = []
 refusals r (ask (listFindings c n)) = []
 refusals r (ask counts) = []
 refusals r (ask audit) = []
+refusals r (ask (write n)) = roomCheck (fileOf (r .model)) n ∷ []
 
 -- "The first that applies, in this order": the check of number n finds fault at p, and no check before it in the list finds any.
 pub record Refuses (cs : List Check) (n p : ℕ) : Type 0 where

@@ -10,9 +10,10 @@ use Rattle.block.specs.Reader.{settingsSaid, entrySaid}
 use Rattle.model.specs.Table.{on, at, lowestFree}
 use Rattle.model.specs.Rules.{carries}
 use Rattle.model.specs.Findings.{containersOf, policiesOf, nextAfter, walk, pairs}
-use Rattle.model.specs.Calls.{Query, askReaches, askUser, nextFinding, listFindings, counts, audit}
+use Rattle.model.specs.Calls.{Query, askReaches, askUser, nextFinding, listFindings, counts, audit, write}
 use Rattle.model.specs.Calls.{Call, openWith, change, admit, removeContainer, removePolicy, rebuild, ask}
-use Rattle.model.specs.Calls.{Answer, refusal, done, containerAt, policyAt, says, counted, foundAnswer, findingsAnswer}
+use Rattle.model.specs.Calls.{Answer, refusal, done, containerAt, policyAt, says, counted, filePut, foundAnswer, findingsAnswer}
+use Rattle.model.specs.File.{fileOf}
 use Rattle.model.specs.Registry.{Registry, consistent, changeContainer, changePolicy, opened, rebuilt}
 use Rattle.model.specs.Refusals.{refusals}
 
@@ -42,6 +43,7 @@ module _ (r : Registry) where
   answerTo (listFindings c n) = findingsAnswer c (walk (nextAfter (r .model) (r .bits)) n c)
   answerTo counts = counted (length (containersOf (r .model))) (length (policiesOf (r .model))) (pairs (r .bits))
   answerTo audit = says (consistent r)
+  answerTo (write n) = filePut (fileOf (r .model))
 
   -- a call that no check refuses
   unfoldable pub acceptedStep : Call → Registry × Answer

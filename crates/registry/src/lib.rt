@@ -4,6 +4,7 @@ ghost use Rattle.store.specs.Layout.{memoryWords};
 pub use admission::admit;
 pub use answers::Admitted;
 pub use answers::Counted;
+pub use answers::FilePut;
 pub use answers::FindingsPut;
 pub use answers::NextFinding;
 pub use answers::Outcome;
@@ -18,6 +19,7 @@ pub use upkeep::audit;
 pub use upkeep::rebuild;
 pub use walks::findings;
 pub use walks::next_finding;
+pub use writing::write;
 
 // The number of words of the memory that every call is lent.
 pub fn words() -> usize

@@ -13,10 +13,6 @@ use Rattle.steps.specs.MemoryStep.{memoryStep}
 use Rattle.formed.specs.Registry.{modelIn, bitsIn, wellFormed}
 use Rattle.store.specs.Layout.{memoryWords}
 use Rattle.steps.proofs.Outcomes.{step-size, step-formed, counts-answers}
-use Rattle.findings.specs.declared.Cursor.{Cursor}
-use Rattle.answers.specs.declared.FindingsPut.{FindingsPut}
-use Rattle.answers.specs.declared.FindingsPut.the-variants as put
-use Rattle.answers.specs.Answers.{putAnswer, countPut}
 use Rattle.codes.specs.Codes.{codeOf, codedStep}
 use Rattle.codes.proofs.Few.{containers-few, policies-few, pairs-fit}
 
@@ -26,11 +22,11 @@ pub coded : (m e : List ℕ) (call : Call) (r : ℕ) (a : Answer) → _≡_ {A =
 unfolding codedStep
 coded m e call r a h k = ap (λ n. (e, n)) k ∙ ap (λ s. (s .0, codeOf (s .1))) h
 
--- how many were put is the number of what stands in the list
-pub put-coded : (m e : List ℕ) (call : Call) (o : FindingsPut) (n : ℕ) (c : Cursor) → o ≡ put.Findings n c
-    → _≡_ {A = List ℕ × Answer} (m, putAnswer o e) (memoryStep m call) → countPut o ≡ length (written (memoryStep m call .1)) → n ≡ codeOf (putAnswer o e)
-put-coded m e call o n c s h k =
-    ap countPut (sym s) ∙ k ∙ ap (λ x. length (written (x .1))) (sym h) ∙ ap (λ x. length (written (putAnswer x e))) s ∙ ap (λ x. codeOf (putAnswer x e)) (sym s)
+-- how much was put is the number of an answer that says what was
+pub put-coded : (m : List ℕ) (call : Call) (a b : Answer) (n : ℕ) → _≡_ {A = List ℕ × Answer} (m, a) (memoryStep m call)
+    → n ≡ length (written (memoryStep m call .1)) → a ≡ b → codeOf b ≡ length (written b) → n ≡ codeOf a
+put-coded m call a b n h k s q =
+    k ∙ ap (λ x. length (written (x .1))) (sym h) ∙ ap (λ x. length (written x)) s ∙ sym q ∙ ap codeOf (sym s)
 
 -- what counts answers fits
 pub record CountsFit (c q n : ℕ) : Type 0 where

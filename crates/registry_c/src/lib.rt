@@ -1,9 +1,9 @@
 // The calls for C, Rust and others: numbers and slices only. An answer is one number: the refusal's number in the top byte, 0 where
-// the call was accepted, and below it the slot, 0 or 1, the finding, how many findings were put into a list, or the counts.
+// the call was accepted, and below it the slot, 0 or 1, the finding, how many findings were put into a list, the counts, or how many bytes were written.
 ghost use mathlib.Core.Path.{_≡_};
 ghost use lib.ListN.{length};
 ghost use Rattle.buffer.specs.Buffer.{overwritten};
-ghost use Rattle.model.specs.Calls.{openWith, change, admit, removeContainer, removePolicy, rebuild, ask, askReaches, askUser, nextFinding, listFindings, counts, audit, written};
+ghost use Rattle.model.specs.Calls.{openWith, change, admit, removeContainer, removePolicy, rebuild, ask, askReaches, askUser, nextFinding, listFindings, counts, audit, write, written};
 ghost use Rattle.store.specs.Layout.{memoryWords};
 ghost use Rattle.steps.specs.MemoryStep.{memoryStep};
 ghost use Rattle.codes.specs.Codes.{codedStep};
@@ -12,6 +12,7 @@ use model::ContainerSlot;
 use model::PolicySlot;
 use registry::Admitted;
 use registry::Counted;
+use registry::FilePut;
 use registry::FindingsPut;
 use registry::NextFinding;
 use registry::Outcome;
@@ -168,5 +169,17 @@ pub extern "C" fn bihokura_audit(memory: &[u64]) -> u64
     match answer {
         Reply::Refused(number) => codes::refused(number),
         Reply::Says(says) => codes::truth(says),
+    }
+}
+
+#[no_mangle]
+pub extern "C" fn bihokura_write(memory: &[u64], bytes: &mut [u8]) -> u64
+    ensures { λ r. ⌜ (now (memory .entry), r) ≡ codedStep (now (memory .entry)) (ask (write (length (now (bytes .entry))))) ⌝ }
+    ensures { λ r. ⌜ now (bytes .exit) ≡ overwritten (now (bytes .entry)) (written (memoryStep (now (memory .entry)) (ask (write (length (now (bytes .entry))))) .1)) ⌝ }
+{
+    let answer = registry::write(memory, bytes);
+    match answer {
+        FilePut::Refused(number) => codes::refused(number),
+        FilePut::Bytes(count) => count as u64,
     }
 }

@@ -1,35 +1,12 @@
 -- Bytes as blocks, however they came.
 use mathlib.Core.Path.{_≡_, refl, sym, ap, ap₂, _∙_}
 use mathlib.Core.List.{List, [], _∷_, _++_, append-nil}
-use Prim.Native.Nat.{ℕ, zero, suc, _+_, _≤_, _<_}
+use Prim.Native.Nat.{ℕ, _+_, _≤_, _<_}
 use native.Mathlib.Omega.{arith}
 use lib.ListN.{length, take, drop, length-drop, length-append}
 use lib.Seq.{take-all, take-append-le, drop-append-le, take-append-add, drop-append-add}
-use Rattle.sheets.specs.Sheet.{blocksBy, blocksOf}
-
--- enough is enough
-blocks-enough : (f g : ℕ) (l : List ℕ) → length l ≤ f → length l ≤ g → blocksBy f l ≡ blocksBy g l
-unfolding blocksBy
-blocks-enough zero zero [] h k = refl
-blocks-enough zero (suc g) [] h k = refl
-blocks-enough (suc f) zero [] h k = refl
-blocks-enough (suc f) (suc g) [] h k = refl
-blocks-enough zero g (x ∷ l) h k = absurd (omega arith)
-blocks-enough (suc f) zero (x ∷ l) h k = absurd (omega arith)
-blocks-enough (suc f) (suc g) (x ∷ l) h k =
-    let n = length-drop 512 (x ∷ l) in
-    ap (λ (r : List (List ℕ)). take 512 (x ∷ l) ∷ r) (blocks-enough f g (drop 512 (x ∷ l)) (omega (arith, n, h)) (omega (arith, n, k)))
-
-blocks-more : (l : List ℕ) → 0 < length l → blocksOf l ≡ take 512 l ∷ blocksOf (drop 512 l)
-unfolding blocksOf blocksBy
-blocks-more [] h = absurd (omega arith)
-blocks-more (x ∷ l) h =
-    ap (λ (r : List (List ℕ)). take 512 (x ∷ l) ∷ r)
-    (blocks-enough (length l) (length (drop 512 (x ∷ l))) (drop 512 (x ∷ l)) (omega (arith, length-drop 512 (x ∷ l))) (omega arith))
-
-pub blocks-end : blocksOf [] ≡ []
-unfolding blocksOf blocksBy
-blocks-end = refl
+use Rattle.block.specs.Cut.{blocksOf}
+use Rattle.block.proofs.Cut.{blocks-more}
 
 pub no-bytes : {A : Type 0} (l : List A) → length l ≡ 0 → l ≡ []
 no-bytes [] e = refl

@@ -32,8 +32,10 @@ use Rattle.sheets.specs.Blocks.{taken, opens, admits, endOf}
 use Rattle.sheets.specs.Pieces.{withBlock, share, waits, takeWith, takeStep}
 use Rattle.sheets.proofs.PieceLaws.{take-on, with-more, with-end, with-block}
 use Rattle.text.specs.Lines.{refusedLine, refusedBy, findingLines}
-use Rattle.sheets.specs.Sheet.{blocksOf, closing, linesFrom, sheetFrom, sheetOf}
-use Rattle.sheets.proofs.Blocks.{no-bytes, blocks-end, blocks-whole, blocks-short}
+use Rattle.block.specs.Cut.{blocksOf}
+use Rattle.block.proofs.Cut.{blocks-end}
+use Rattle.sheets.specs.Sheet.{closing, linesFrom, sheetFrom, sheetOf}
+use Rattle.sheets.proofs.Blocks.{no-bytes, blocks-whole, blocks-short}
 use Rattle.sheets.proofs.Kept.{Keeps, keeps-after, keeps-answer, keeps-open}
 
 -- after n blocks, with the bytes l of the next ones

@@ -31,7 +31,8 @@ use Rattle.sheets.proofs.BlockLaws.{oneOf}
 use Rattle.sheets.proofs.PieceLaws.{take-on, with-more, with-end, with-block}
 use Rattle.sheets.specs.Closing.{counting, countStep, linesIn, listing, listStep}
 use Rattle.text.specs.Lines.{refusedBy, findingLines}
-use Rattle.sheets.specs.Sheet.{blocksOf, closing, sheetOf, sheet}
+use Rattle.block.specs.Cut.{blocksOf}
+use Rattle.sheets.specs.Sheet.{closing, sheetOf, sheet}
 use Rattle.sheets.specs.Step.{told, reportStep, startState, finishedIn}
 use Rattle.sheets.specs.Runs.{ReportRun, ends, goes, Lent, lentStep, Follows, over, stepped, callBy, TextIsSheet, EveryRunIsSheet, BlockAtOnce}
 use Rattle.sheets.proofs.StepLaws.{lines-some}

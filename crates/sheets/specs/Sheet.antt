@@ -1,25 +1,17 @@
 -- The whole sheet, from the bytes of the input to the lines, straight from document 01, "The program and one printed sheet". It
 -- speaks of the plain book alone: no memory, no stored bit, no piece of input and no buffer.
 use mathlib.Core.List.{List, [], _∷_, _++_}
-use Prim.Native.Nat.{ℕ, zero, suc, _+_}
-use lib.ListN.{length, take, drop}
+use Prim.Native.Nat.{ℕ, _+_}
+use lib.ListN.{length}
 use Rattle.block.specs.Entry.{Settings}
 use Rattle.block.specs.Refusal.{Read, refused, accepted}
 use Rattle.block.specs.Reader.{readSettings}
+use Rattle.block.specs.Cut.{blocksOf}
 use Rattle.model.specs.Model.{Model, empty, computedBits}
 use Rattle.model.specs.Findings.{containersOf, policiesOf, findings, pairs}
 use Rattle.model.specs.Calls.{change, admit}
 use Rattle.model.specs.ModelStep.{modelStep}
 use Rattle.text.specs.Lines.{refusedLine, refusedBy, countsLine, findingLines}
-
--- "reads blocks": bytes as blocks of 512, "a short last block" among them. At most f of them.
-unfoldable pub blocksBy : ℕ → List ℕ → List (List ℕ)
-blocksBy zero l = []
-blocksBy (suc f) [] = []
-blocksBy (suc f) (x ∷ l) = take 512 (x ∷ l) ∷ blocksBy f (drop 512 (x ∷ l))
-
-unfoldable pub blocksOf : List ℕ → List (List ℕ)
-blocksOf l = blocksBy (length l) l
 
 -- "Then one line with the standing counts and PAIRS, then the findings."
 unfoldable pub closing : Model → List ℕ
@@ -41,5 +33,6 @@ unfoldable pub sheetOf : List (List ℕ) → List ℕ
 sheetOf [] = refusedLine 1 3
 sheetOf (b ∷ l) = sheetFrom (readSettings b) l
 
+-- "reads blocks from standard input"
 unfoldable pub sheet : List ℕ → List ℕ
 sheet input = sheetOf (blocksOf input)

@@ -7,3 +7,4 @@ pub mod Refinement
 pub mod StaysFormed
 pub mod Walk
 pub mod Parts
+pub mod ReadBack

@@ -3,7 +3,7 @@ use mathlib.Core.Path.{_≡_, refl}
 use mathlib.Core.List.{List, map}
 use Prim.Native.Nat.{ℕ}
 use Rattle.block.specs.Reader.{settingsChecks, entryChecks}
-use Rattle.model.specs.Calls.{askReaches, askUser, nextFinding, listFindings, counts, audit}
+use Rattle.model.specs.Calls.{askReaches, askUser, nextFinding, listFindings, counts, audit, write}
 use Rattle.model.specs.Calls.{Call, openWith, change, admit, removeContainer, removePolicy, rebuild, ask}
 use Rattle.model.specs.Refusals.{refusals}
 use Rattle.steps.specs.MemoryStep.{memoryRefusals}
@@ -23,3 +23,4 @@ numbers-met m (ask (nextFinding c)) = refl
 numbers-met m (ask (listFindings c n)) = refl
 numbers-met m (ask counts) = refl
 numbers-met m (ask audit) = refl
+numbers-met m (ask (write n)) = refl

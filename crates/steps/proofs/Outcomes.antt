@@ -7,7 +7,7 @@ use Prim.Native.Nat.{ℕ, _≤_, _<_}
 use native.Mathlib.Omega.{arith}
 use lib.Dec.{leb}
 use lib.ListN.{length}
-use borrow.Author.Tests.{eq-eqb, ne-eqb, le-leb, lt-leb}
+use borrow.Author.Tests.{eq-eqb, ne-eqb, le-leb, lt-leb, lt-ltb, le-ltb}
 use Rattle.block.specs.Entry.{Container, Policy, Settings, Entry, container, policy}
 use Rattle.block.specs.declared.Refusal.{Refusal}
 use Rattle.block.specs.declared.Tested.{Tested}
@@ -20,9 +20,10 @@ use Rattle.model.specs.Table.{Table, on, isFree, at, free, lowestFree}
 use Rattle.model.specs.Rules.{carries}
 use Rattle.model.specs.Model.{containerSlots, policySlots}
 use Rattle.model.specs.Findings.{containersOf, policiesOf, nextAfter, walk, pairs}
-use Rattle.model.specs.Calls.{askReaches, askUser, nextFinding, listFindings, counts, audit}
+use Rattle.model.specs.Calls.{askReaches, askUser, nextFinding, listFindings, counts, audit, write}
 use Rattle.model.specs.Calls.{Call, Change, Query, openWith, change, admit, removeContainer, removePolicy, rebuild, ask}
-use Rattle.model.specs.Calls.{refusal, done, containerAt, policyAt, says, counted, foundAnswer, findingsAnswer}
+use Rattle.model.specs.Calls.{refusal, done, containerAt, policyAt, says, counted, filePut, foundAnswer, findingsAnswer}
+use Rattle.model.specs.File.{fileOf}
 use Rattle.model.specs.Registry.{computed, consistent, changeContainer, changePolicy, opened, rebuilt}
 use Rattle.model.specs.Refusals.{where0, slotChecks, pairChecks, noRoom, refusals}
 use Rattle.model.specs.RegistryStep.{admitContainer, admitPolicy, admitEntry, takePolicy, answerTo, acceptedStep}
@@ -287,3 +288,13 @@ module _ (m : List ℕ) (formed : wellFormed m ≡ true) where
   pub audit-says : memoryStep m (ask audit) ≡ (m, says (consistent (registryIn m)))
   unfolding refusals acceptedStep answerTo
   audit-says = step-asked m formed audit refl
+
+  -- into a buffer of n bytes: 13, or the file
+  module _ (n : ℕ) where
+    pub write-short : n < length (fileOf (modelIn m)) → memoryStep m (ask (write n)) ≡ (m, refusal 13)
+    unfolding refusals registryIn
+    write-short h = step-refused m formed (ask (write n)) (record { number = 13; position = 0 }) (rw (lt-ltb n (length (fileOf (modelIn m))) h))
+
+    pub write-puts : length (fileOf (modelIn m)) ≤ n → memoryStep m (ask (write n)) ≡ (m, filePut (fileOf (modelIn m)))
+    unfolding refusals registryIn acceptedStep answerTo
+    write-puts h = step-asked m formed (write n) (rw (le-ltb n (length (fileOf (modelIn m))) h))

@@ -65,7 +65,7 @@ step-image r a call =
     ∙ outcome-image r call (firstRefusal (refusals r call)) e
 
 -- the memory of a model whose bits are computed, and what was answered
-abbrev left : {A : Type 0} → Model × A → List ℕ × A
+abbrev pub left : {A : Type 0} → Model × A → List ℕ × A
 left r = (image (computed (r .0)), r .1)
 
 pub step-refines : (m : Model) → ValidEntries m → (call : Call) → memoryStep (image (computed m)) call ≡ left (modelStep m call)

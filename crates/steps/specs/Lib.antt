@@ -2,3 +2,4 @@
 pub mod MemoryStep
 pub mod NumbersMet
 pub mod Refinement
+pub mod ReadBack

@@ -1,7 +1,7 @@
 -- Document 01's sentence of the refusals that each call meets, as the lists of their numbers.
 use mathlib.Core.List.{List, [], _∷_}
 use Prim.Native.Nat.{ℕ}
-use Rattle.model.specs.Calls.{askReaches, askUser, nextFinding, listFindings, counts, audit}
+use Rattle.model.specs.Calls.{askReaches, askUser, nextFinding, listFindings, counts, audit, write}
 use Rattle.model.specs.Calls.{Call, openWith, change, admit, removeContainer, removePolicy, rebuild, ask}
 
 -- "The first that applies, in this order."
@@ -21,3 +21,5 @@ numbersMet (ask (nextFinding c)) = 1 ∷ 2 ∷ []
 numbersMet (ask (listFindings c n)) = 1 ∷ 2 ∷ []
 numbersMet (ask counts) = 1 ∷ 2 ∷ []
 numbersMet (ask audit) = 1 ∷ 2 ∷ []
+-- document 02, Note 1: "after 1 and 2, a buffer with too few bytes is 13"
+numbersMet (ask (write n)) = 1 ∷ 2 ∷ 13 ∷ []

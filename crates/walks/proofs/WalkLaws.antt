@@ -4,13 +4,12 @@ use mathlib.Core.Bool.{true}
 use mathlib.Core.List.{List, map}
 use mathlib.Core.Option.{Option, none, some}
 use Prim.Native.Nat.{ℕ}
-use native.Mathlib.Nat.{zero-add}
 use lib.ListN.{length}
-use Rattle.buffer.specs.Buffer.{overwritten, Puts}
-use Rattle.buffer.proofs.BufferLaws.{puts-start, puts-taken}
+use Rattle.buffer.specs.Buffer.{Puts}
+use Rattle.buffer.proofs.BufferLaws.{puts-taken}
 use Rattle.model.specs.declared.Finding.{Finding}
 use Rattle.model.specs.Findings.{Place, nextAfter, walk, moved, findingCode}
-use Rattle.model.specs.Calls.{ask, nextFinding, listFindings, Answer, refusal, found, noFinding, findingsPut, foundAnswer, written}
+use Rattle.model.specs.Calls.{ask, nextFinding, listFindings, Answer, refusal, found, noFinding, findingsPut, foundAnswer}
 use Rattle.formed.specs.Registry.{modelIn, bitsIn, wellFormed}
 use Rattle.steps.specs.MemoryStep.{memoryStep}
 use Rattle.steps.proofs.Outcomes.{next-answers, findings-answers}
@@ -18,26 +17,19 @@ use Rattle.findings.specs.declared.Cursor.{Cursor}
 use Rattle.findings.specs.declared.Step.{Step}
 use Rattle.findings.specs.declared.Step.the-variants as steps
 use Rattle.findings.specs.Steps.{cursorPlace, nextStep}
-use Rattle.answers.specs.declared.FindingsPut.{FindingsPut}
 use Rattle.answers.specs.declared.FindingsPut.the-variants as put
-use Rattle.answers.specs.Answers.{putAnswer, countPut}
+use Rattle.answers.specs.Answers.{putAnswer}
+use Rattle.answers.proofs.AnswerLaws.{Promised, promised-refused, promised-put}
 
 -- what a step of the walk answers
 abbrev pub stepAnswer : Step → Answer
 stepAnswer (steps.Found g c) = found g (cursorPlace c)
 stepAnswer steps.Done = noFinding
 
--- what the call findings promises: of its answer, of how many it put, and of the list d, which it leaves as e
-abbrev Promised : List ℕ → Place → List ℕ → List ℕ → FindingsPut → Type 0
-Promised m p d e r =
-    let s = memoryStep m (ask (listFindings p (length d))) in
-    ((m, putAnswer r e) ≡ s) × ((countPut r ≡ length (written (s .1))) × (e ≡ overwritten d (written (s .1))))
-
 module _ (m : List ℕ) where
   pub findings-refused : (p : Place) (d : List ℕ) (n : ℕ) → memoryStep m (ask (listFindings p (length d))) ≡ (m, refusal n)
-      → Promised m p d d (put.Refused n)
-  unfolding overwritten
-  findings-refused p d n h = (sym h, (ap (λ s. length (written (s .1))) (sym h), ap (λ s. overwritten d (written (s .1))) (sym h)))
+      → Promised m (ask (listFindings p (length d))) d d (refusal n) 0
+  findings-refused p d n h = promised-refused m (ask (listFindings p (length d))) d n h
 
   module _ (formed : wellFormed m ≡ true) where
     -- the next finding, and the place to go on from
@@ -51,9 +43,7 @@ module _ (m : List ℕ) where
     -- what was put into the list, and the place to go on from
     pub findings-answer : (p : Place) {d e : List ℕ} {n : ℕ} {c : Cursor}
         → Puts d 0 (map findingCode (walk (nextAfter (modelIn m) (bitsIn m)) (length d) p)) e n
-        → cursorPlace c ≡ moved p (walk (nextAfter (modelIn m) (bitsIn m)) (length d) p) → Promised m p d e (put.Findings n c)
+        → cursorPlace c ≡ moved p (walk (nextAfter (modelIn m) (bitsIn m)) (length d) p)
+        → Promised m (ask (listFindings p (length d))) d e (putAnswer (put.Findings n c) e) n
     findings-answer p {d} {e} {n} {c} g q =
-        let h = findings-answers m formed p (length d) in (
-          ap₂ (λ l c. (m, findingsPut l c)) (puts-taken g) q ∙ sym h,
-          (g .stops ∙ zero-add _ ∙ ap (λ s. length (written (s .1))) (sym h), puts-start g ∙ ap (λ s. overwritten d (written (s .1))) (sym h)),
-        )
+        promised-put m (ask (listFindings p (length d))) _ _ (ap₂ findingsPut (puts-taken g) q) (findings-answers m formed p (length d)) g

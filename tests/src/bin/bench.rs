@@ -7,7 +7,7 @@ use bihokura_tests::baseline::{self as b, ByLabels, ByTrials};
 use bihokura_tests::bytes::{self, EGRESS, INGRESS};
 use bihokura_tests::layout::{CONTAINER_SLOTS, POLICY_SLOTS, WORDS};
 use bihokura_tests::process::PROGRAM;
-use bihokura_tests::registries::{self, settings, Registry};
+use bihokura_tests::registries::{self, settings, Registry, FILE};
 use bihokura_tests::{c, clock, walks};
 use std::cell::RefCell;
 use std::fs::File;
@@ -197,6 +197,16 @@ fn walk_by_lists(m: &[u64], findings: impl Fn(&[u64], Finding, &mut [u64]) -> u6
     n
 }
 
+/// The file of a registry, which the register and plain Rust write alike.
+fn written(m: &[u64]) -> Vec<u8> {
+    let mut file = vec![0; FILE];
+    let n = outcome(c::write(m, &mut file)).unwrap() as usize;
+    file.truncate(n);
+    let mut plain = vec![1; n];
+    assert!(b::write(m, &mut plain) == n as u64 && plain == file);
+    file
+}
+
 /// The calls that leave the memory as it is: here rebuild too, since the registry is consistent. Open comes last.
 fn others(full: &[u64], r: &Registry) -> Vec<Line> {
     let m = RefCell::new(full.to_vec());
@@ -204,6 +214,7 @@ fn others(full: &[u64], r: &Registry) -> Vec<Line> {
     bad[509] = 1;
     bytes::seal(&mut bad);
     let plain_walk: Side = &|m, _| walk(m, b::next_finding);
+    let file = RefCell::new(written(full));
     let mut lines = vec![
         still("admit, refused with 9", &m, sides!(|_| admit(&bad))),
         still("reaches", &m, alike!(|_| reaches(0, 0))),
@@ -213,6 +224,7 @@ fn others(full: &[u64], r: &Registry) -> Vec<Line> {
         still("next finding, last", &m, alike!(|_| next_finding((7, 255, 255)))),
         still("rebuild", &m, sides!(|_| rebuild())),
         still("audit", &m, sides!(|_| audit())),
+        still("write", &m, alike!(|_| write(&mut file.borrow_mut()))),
         still("a whole walk", &m, [&|m, _| walk(m, c::next_finding), plain_walk, plain_walk]),
         still(BY_LISTS, &m, [&|m, _| walk_by_lists(m, c::findings), &|m, _| walk_by_lists(m, b::findings), plain_walk]),
     ];
@@ -290,7 +302,12 @@ fn bars(name: &str, registry: &str) -> (f64, f64) {
         "lister" => 1.0 / 3.0,
         _ => f64::INFINITY,
     };
-    (if name == "lister" { f64::INFINITY } else { 1.2 }, release)
+    let same = match name {
+        "lister" => f64::INFINITY,
+        "write" => 1.3,
+        _ => 1.2,
+    };
+    (same, release)
 }
 
 /// A row for each call, a column for each of the tables: the time, and in brackets the ratios.

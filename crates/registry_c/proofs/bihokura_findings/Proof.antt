@@ -1,7 +1,7 @@
 -- By what `findings` promises: how many were put is the length of what stands in the list.
 use borrow.Author.Needs.{needs}
-use mathlib.Core.Path.{sym, ap, _∙_}
-use Rattle.answers.specs.Answers.{putAnswer}
+use mathlib.Core.Path.{refl, sym, ap, _∙_}
+use Rattle.answers.specs.Answers.{putAnswer, countPut}
 use Rattle.codes.specs.Codes.{codeOf}
 use Rattle.registry_c.proofs.CodeLaws.{coded, put-coded}
 use Rattle.registry_c.proofs.bihokura_findings.Statement.{statement}
@@ -17,7 +17,11 @@ returns-2 : tie.Need-returns-2
 returns-2 c =
     let d = c .before .before .before .before .before in
     let h = d .findings .ensures in
-    (coded _ _ _ _ (putAnswer (d .findings .result) _) (h .0) (put-coded _ _ _ _ _ _ (c .before .answer2 .given .1) (h .0) (h .1 .0)), h .1 .1)
+    let s = c .before .answer2 .given .1 in (
+      coded _ _ _ _ (putAnswer (d .findings .result) _) (h .0)
+          (put-coded _ _ _ _ _ (h .0) (ap countPut (sym s) ∙ h .1 .0) (ap (λ o. putAnswer o (d .findings .last .1 .1 .0)) s) refl),
+      h .1 .1,
+    )
 
 pub bihokura-findings-spec : {M : Type 1} → statement M
 bihokura-findings-spec =

@@ -1,0 +1,2 @@
+-- What the contracts of `entry_blocks` cite.
+pub mod Labels

@@ -1,0 +1,63 @@
+-- Each turn puts the block of one slot, or none where the slot is free.
+use Prim.Native.Nat.{_+_, _-_, _≤_}
+use native.Mathlib.Omega.{arith}
+use lib.ListN.{length}
+use borrow.Author.Needs.{needs}
+use Rattle.formed.specs.Registry.{modelIn}
+use Rattle.files.specs.Tables.{containerBlock}
+use Rattle.files.proofs.TableLaws.{Putting, begins, size, skips, room, appends, ends}
+use Rattle.files.proofs.FileLaws.{free-container, taken-container}
+use Rattle.files.proofs.put_containers.Statement.{statement}
+use Rattle.files.proofs.put_containers.Tie as tie
+
+abbrev Inv-loop : tie.InvT-loop
+Inv-loop memory bytes₀ start at₀ c₀ bytes at c = Putting containerBlock (modelIn memory .containers) bytes₀ start bytes at c
+
+abbrev μ-loop : tie.MeasureT-loop
+μ-loop memory bytes₀ start at₀ c₀ bytes at c = 256 - c
+
+write-container-requires : tie.Need-write-container-requires Inv-loop μ-loop
+write-container-requires c κs = (c .before .before .before .before .before .before .before .pre .0, search needs, search needs, omega arith)
+
+roomy : (c : tie.Then1 Inv-loop μ-loop) → c .before .before .before .loop .at + 512 ≤ length (c .before .before .before .loop .bytes)
+roomy c =
+    let l = c .before .before .before in
+    room (l .loop .inv) (taken-container (l .before .before .before .pre .0) (c .before .before .loop-test .taken) (c .if1 .taken))
+
+loop-again : tie.Need-loop-again Inv-loop μ-loop
+loop-again c =
+    let t = c .before .before .before .before in
+    let l = t .before .before .before in
+    appends (l .loop .inv) (taken-container (l .before .before .before .pre .0) (t .before .before .loop-test .taken) (t .if1 .taken)) (c .before .before .write-container .ensures)
+
+loop-again-2 : tie.Need-loop-again-2 Inv-loop μ-loop
+loop-again-2 c =
+    let l = c .before .before .before in
+    skips (l .loop .inv) (free-container (l .before .before .before .pre .0) (c .before .before .loop-test .taken) (c .if1 .left))
+
+returns : tie.Need-returns Inv-loop μ-loop
+returns c = ends (c .before .loop .inv) (omega (arith, c .before .before .before .before .pre .0 .entries .containers))
+
+pub put-containers-spec : {M : Type 1} → statement M
+put-containers-spec =
+    tie.close
+    (tie.spec
+    Inv-loop
+    μ-loop
+    (λ c. begins (c .before .before .pre .1))
+    (λ c. search needs)
+    (λ c. search needs)
+    (λ c. search needs)
+    (λ c. search needs)
+    (λ c. search needs)
+    (λ c. let h = roomy c in search needs)
+    (λ c. search needs)
+    (λ c. search needs)
+    (λ c. let h = roomy c in search needs)
+    write-container-requires
+    (λ c. search needs)
+    loop-again
+    (λ c. search needs)
+    loop-again-2
+    (λ c. size (c .before .loop .inv))
+    returns)

@@ -1,0 +1,2 @@
+-- What the contracts of functions that make a block cite.
+pub mod Sealing

@@ -1,0 +1,2 @@
+-- The law of writing.
+pub mod WritingLaws
