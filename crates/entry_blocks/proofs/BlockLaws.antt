@@ -17,8 +17,8 @@ use Rattle.entry_blocks.specs.Labels.{LabelsFit}
 
 -- ---- numbers of two bytes
 
-two-bytes : (n high low : ℕ) → n ≡ high * 256 + low → low < 256 → numberBytes n ≡ high ∷ low ∷ []
-two-bytes n high low e h =
+high-and-low : (n high low : ℕ) → n ≡ high * 256 + low → low < 256 → numberBytes n ≡ high ∷ low ∷ []
+high-and-low n high low e h =
     let x : n / 256 ≡ high = omega arith in
     let y : n % 256 ≡ low = omega arith in
     ap₂ (λ (i j : ℕ). i ∷ j ∷ []) x y
@@ -109,7 +109,7 @@ module _ {m d e : List ℕ} {part at i to sum : ℕ} (g : LabelsPut m part d at 
 four-bytes : (x y a b c k : ℕ) {d e f : List ℕ} {r s : ℕ} → x ≡ a * 256 + b → b < 256 → y ≡ c * 256 + k → k < 256
     → Lengthens d 0 (numberBytes x) e r → Lengthens e 2 (numberBytes y) f s → Lengthens d 0 (a ∷ b ∷ c ∷ k ∷ []) f s
 four-bytes x y a b c k {d} {e} {f} {r} {s} p q u v g h =
-    subst (λ (l : List ℕ). Lengthens d 0 l f s) (ap₂ (λ (i j : List ℕ). i ++ j) (two-bytes x a b p q) (two-bytes y c k u v)) (lengthens-then g h)
+    subst (λ (l : List ℕ). Lengthens d 0 l f s) (ap₂ (λ (i j : List ℕ). i ++ j) (high-and-low x a b p q) (high-and-low y c k u v)) (lengthens-then g h)
 
 -- and sealed behind what was put
 sealed-as : {d t e f : List ℕ} {r : ℕ} (n : ℕ) → Lengthens d 0 t e r → length t ≡ n → f ≡ sealed (take n e) → f ≡ sealed t

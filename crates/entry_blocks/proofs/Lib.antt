@@ -1,3 +1,3 @@
 -- The laws of the blocks of settings and entries.
-mod BlockLaws
-mod FormedParts
+pub mod BlockLaws
+pub mod FormedParts

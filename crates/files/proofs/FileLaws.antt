@@ -22,7 +22,7 @@ use Rattle.formed.specs.Words.{settingsIn, partIn, policyAt}
 use Rattle.formed.specs.Registry.{modelIn, validContainer, validPolicy, ValidEntries, EntriesFormed}
 use Rattle.formed.proofs.Reading.{container-slot, container-free, container-taken, policy-slot, policy-free, policy-taken}
 use Rattle.files.specs.Tables.{tableBlocks, containerBlock, policyBlock}
-use Rattle.files.proofs.TableLaws.{blocks-length, Free, Taken}
+use Rattle.files.proofs.TableLaws.{blocks-length, FreeSlot, TakenSlot}
 
 -- ---- the file of a model
 
@@ -79,19 +79,19 @@ module _ (m : Model) (valid : ValidEntries m) where
 
 module _ {m : List ℕ} (ok : EntriesFormed m) where
   module _ {c : ℕ} (h : c < containerSlots) where
-    pub free-container : wordAt m (containerStart c) ≡ 0 → Free (modelIn m .containers) c
+    pub free-container : wordAt m (containerStart c) ≡ 0 → FreeSlot (modelIn m .containers) c
     free-container e = record { within = omega (arith, ok .entries .containers); slot = container-slot m c h ∙ container-free m c e }
 
-    pub taken-container : (wordAt m (containerStart c) ≡ 0 → ⊥) → Taken containerBlock (modelIn m .containers) 512 c (partIn m (containerStart c))
+    pub taken-container : (wordAt m (containerStart c) ≡ 0 → ⊥) → TakenSlot containerBlock (modelIn m .containers) 512 c (partIn m (containerStart c))
     taken-container n =
         let s = container-slot m c h ∙ container-taken m c n in
         record { within = omega (arith, ok .entries .containers); slot = s; size = container-size (modelIn m) (ok .entries) c (partIn m (containerStart c)) s }
 
   module _ {q : ℕ} (h : q < policySlots) where
-    pub free-policy : wordAt m (policyStart q) ≡ 0 → Free (modelIn m .policies) q
+    pub free-policy : wordAt m (policyStart q) ≡ 0 → FreeSlot (modelIn m .policies) q
     free-policy e = record { within = omega (arith, ok .entries .policies); slot = policy-slot m q h ∙ policy-free m q e }
 
-    pub taken-policy : (wordAt m (policyStart q) ≡ 0 → ⊥) → Taken policyBlock (modelIn m .policies) 512 q (policyAt m q)
+    pub taken-policy : (wordAt m (policyStart q) ≡ 0 → ⊥) → TakenSlot policyBlock (modelIn m .policies) 512 q (policyAt m q)
     taken-policy n =
         let s = policy-slot m q h ∙ policy-taken m q n in
         record { within = omega (arith, ok .entries .policies); slot = s; size = policy-size (modelIn m) (ok .entries) q (policyAt m q) s }

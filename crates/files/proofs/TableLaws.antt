@@ -50,50 +50,50 @@ module _ {A : Type 0} (f : A → List ℕ) where
   blocks-next t i o h e = rw (add-one, take-suc t i none, e, blocks-append, blocks-slot, blocks-none, append-nil)
 
   -- those of the first slots are no longer than all
-  blocks-first : (t : Table A) (k : ℕ) → length (tableBlocks f (take k t)) ≤ length (tableBlocks f t)
-  blocks-first t k =
+  blocks-part : (t : Table A) (k : ℕ) → length (tableBlocks f (take k t)) ≤ length (tableBlocks f t)
+  blocks-part t k =
       let e = ap (λ (u : Table A). length (tableBlocks f u)) (take-append-drop k t) in
       omega (arith, simp (blocks-append, length-append) at e)
 
 -- ---- a loop over the slots
 
 -- e is the buffer d with the blocks of the first i slots put from `start` on, up to before `stop`; d has room for those of all slots
-pub record Putting {A : Type 0} (f : A → List ℕ) (t : Table A) (d : List ℕ) (start : ℕ) (e : List ℕ) (stop i : ℕ) : Type 0 where
+pub record TablePut {A : Type 0} (f : A → List ℕ) (t : Table A) (d : List ℕ) (start : ℕ) (e : List ℕ) (stop i : ℕ) : Type 0 where
   pub fits : start + length (tableBlocks f t) ≤ length d
   pub puts : Puts d start (tableBlocks f (take i t)) e stop
 
 -- slot i is free
-pub record Free {A : Type 0} (t : Table A) (i : ℕ) : Type 0 where
+pub record FreeSlot {A : Type 0} (t : Table A) (i : ℕ) : Type 0 where
   pub within : i < length t
   pub slot : at t i ≡ none
 
 -- slot i holds x, and the block of x has n bytes
-pub record Taken {A : Type 0} (f : A → List ℕ) (t : Table A) (n i : ℕ) (x : A) : Type 0 where
+pub record TakenSlot {A : Type 0} (f : A → List ℕ) (t : Table A) (n i : ℕ) (x : A) : Type 0 where
   pub within : i < length t
   pub slot : at t i ≡ some x
   pub size : length (f x) ≡ n
 
 module _ {A : Type 0} {f : A → List ℕ} {t : Table A} {d : List ℕ} {start : ℕ} where
-  pub begins : start + length (tableBlocks f t) ≤ length d → Putting f t d start d start 0
+  pub begins : start + length (tableBlocks f t) ≤ length d → TablePut f t d start d start 0
   begins h = record { fits = h; puts = puts-as (puts-none (omega arith)) (sym (blocks-none f)) }
 
-  module _ {e : List ℕ} {stop i : ℕ} (g : Putting f t d start e stop i) where
+  module _ {e : List ℕ} {stop i : ℕ} (g : TablePut f t d start e stop i) where
     pub size : length e ≡ length d
     size = puts-size (g .puts)
 
-    pub skips : Free t i → Putting f t d start e stop (i + 1)
+    pub skips : FreeSlot t i → TablePut f t d start e stop (i + 1)
     skips s = record { fits = g .fits; puts = puts-as (g .puts) (sym (append-nil (tableBlocks f (take i t))) ∙ blocks-next f t i none (s .within) (s .slot)) }
 
-    module _ {n : ℕ} {x : A} (s : Taken f t n i x) where
+    module _ {n : ℕ} {x : A} (s : TakenSlot f t n i x) where
       more : tableBlocks f (take i t) ++ f x ≡ tableBlocks f (take (i + 1) t)
       more = blocks-next f t i (some x) (s .within) (s .slot)
 
       pub room : stop + n ≤ length e
       room =
           let l = ap length more in
-          omega (arith, length-append (tableBlocks f (take i t)) (f x), blocks-first f t (i + 1), s .size, g .fits, g .puts .stops, size)
+          omega (arith, length-append (tableBlocks f (take i t)) (f x), blocks-part f t (i + 1), s .size, g .fits, g .puts .stops, size)
 
-      pub appends : {part : List ℕ} → part ≡ f x → Putting f t d start (putMid stop (stop + n - stop) e part) (stop + n) (i + 1)
+      pub appends : {part : List ℕ} → part ≡ f x → TablePut f t d start (putMid stop (stop + n - stop) e part) (stop + n) (i + 1)
       appends q = record { fits = g .fits; puts = puts-as (puts-then (g .puts) (puts-lent stop (stop + n) (omega arith) room (s .size ∙ omega arith) q)) more }
 
     pub ends : length t ≤ i → Puts d start (tableBlocks f t) e stop

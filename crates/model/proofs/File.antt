@@ -33,27 +33,27 @@ module _ {A : Type 0} where
   entries-fit t = omega (arith, entries-standing t, standing-few 0 t)
 
   -- these entries, then n free slots
-  abbrev pub filled : List A → ℕ → Table A
-  filled l n = map some l ++ replicate n none
+  abbrev pub packed : List A → ℕ → Table A
+  packed l n = map some l ++ replicate n none
 
-  filled-lowest : (l : List A) (n : ℕ) → lowestFree (filled l (suc n)) ≡ some (length l)
-  filled-lowest [] n = refl
-  filled-lowest (x ∷ l) n = ap next (filled-lowest l n)
+  packed-lowest : (l : List A) (n : ℕ) → lowestFree (packed l (suc n)) ≡ some (length l)
+  packed-lowest [] n = refl
+  packed-lowest (x ∷ l) n = ap next (packed-lowest l n)
 
-  filled-put : (l : List A) (n : ℕ) (x : A) → set (filled l (suc n)) (length l) (some x) ≡ filled (l ++ x ∷ []) n
-  filled-put [] n x = refl
-  filled-put (y ∷ l) n x = ap (λ (t : Table A). some y ∷ t) (filled-put l n x)
+  packed-put : (l : List A) (n : ℕ) (x : A) → set (packed l (suc n)) (length l) (some x) ≡ packed (l ++ x ∷ []) n
+  packed-put [] n x = refl
+  packed-put (y ∷ l) n x = ap (λ (t : Table A). some y ∷ t) (packed-put l n x)
 
-  filled-entries : (l : List A) (n : ℕ) → standingEntries (filled l n) ≡ l
-  filled-entries [] zero = refl
-  filled-entries [] (suc n) = filled-entries [] n
-  filled-entries (x ∷ l) n = ap (λ (r : List A). x ∷ r) (filled-entries l n)
+  packed-entries : (l : List A) (n : ℕ) → standingEntries (packed l n) ≡ l
+  packed-entries [] zero = refl
+  packed-entries [] (suc n) = packed-entries [] n
+  packed-entries (x ∷ l) n = ap (λ (r : List A). x ∷ r) (packed-entries l n)
 
   -- ---- closed up
 
   closed-entries : (t : Table A) → standingEntries (closed t) ≡ standingEntries t
   unfolding closed
-  closed-entries t = filled-entries (standingEntries t) (length t - length (standingEntries t))
+  closed-entries t = packed-entries (standingEntries t) (length t - length (standingEntries t))
 
   -- a test of some entry
   any-entries : (f : A → Bool) (t : Table A) → any (on f) t ≡ any f (standingEntries t)
@@ -69,7 +69,7 @@ module _ {A : Type 0} where
     slot : ℕ
     number : getD (standingFrom k t) i 0 ≡ k + slot
     within : slot < length t
-    holds : at (filled (standingEntries t) n) i ≡ at t slot
+    holds : at (packed (standingEntries t) n) i ≡ at t slot
 
   nth : (k n : ℕ) (t : Table A) (i : ℕ) → i < length (standingFrom k t) → Nth k n t i
   nth k n [] i h = absurd (not-suc-le-zero h)
@@ -156,11 +156,11 @@ module _ {S : Type 0} (step : S → Call → S × Answer) where
   module _ {A : Type 0} (hold : Table A → S) (call : A → Call) (answer : ℕ → Answer) (P : A → Type 0)
       (puts : (t : Table A) (x : A) (i : ℕ) → P x → lowestFree t ≡ some i → step (hold t) (call x) ≡ (hold (set t i (some x)), answer i)) where
     pub run-fills : (l xs : List A) (n : ℕ) → All P xs → length xs ≤ n
-        → run step (hold (filled l n)) (map call xs) ≡ (hold (filled (l ++ xs) (n - length xs)), map answer (upFrom (length l) (length xs)))
+        → run step (hold (packed l n)) (map call xs) ≡ (hold (packed (l ++ xs) (n - length xs)), map answer (upFrom (length l) (length xs)))
     run-fills l [] n t h = rw (append-nil, sub-zero)
     run-fills l (x ∷ xs) zero t h = absurd (not-suc-le-zero h)
     run-fills l (x ∷ xs) (suc n) t h =
         let more : length (l ++ x ∷ []) ≡ suc (length l) = omega (arith, length-append l (x ∷ [])) in
-        run-next (hold (filled l (suc n))) (hold (filled (l ++ x ∷ []) n)) (answer (length l)) (call x) (map call xs)
-        (puts (filled l (suc n)) x (length l) (t .0) (filled-lowest l n) ∙ ap (λ (u : Table A). (hold u, answer (length l))) (filled-put l n x))
+        run-next (hold (packed l (suc n))) (hold (packed (l ++ x ∷ []) n)) (answer (length l)) (call x) (map call xs)
+        (puts (packed l (suc n)) x (length l) (t .0) (packed-lowest l n) ∙ ap (λ (u : Table A). (hold u, answer (length l))) (packed-put l n x))
         ∙ rw (run-fills (l ++ x ∷ []) xs n (t .1) (le-of-suc-le-suc h), append-snoc, more, suc-sub-suc)

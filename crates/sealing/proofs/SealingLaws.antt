@@ -48,19 +48,19 @@ weighted-set d at x h =
     ∙ ap₂ (λ (m n : ℕ). m + n * (at + 1)) (same-weight (set d at x) d at (λ k l. getD-set-other d at k x 0 (λ e. omega arith))) (getD-set-same d at x 0 h)
 
 -- what a byte adds to the sum, and the sum with it, fit a word
-pub part-small : (x p : ℕ) → x ≤ 255 → p ≤ 510 → x * p ≤ 130050
-part-small x p h k = mul-le-mul {n₂ = 255} {m₂ = 510} h k
+pub byte-small : (x p : ℕ) → x ≤ 255 → p ≤ 510 → x * p ≤ 130050
+byte-small x p h k = mul-le-mul {n₂ = 255} {m₂ = 510} h k
 
-pub part-fits : (x p : ℕ) → x ≤ 255 → p ≤ 510 → Fits w64 (x * p)
-part-fits x p h k = record { fits = omega (arith, part-small x p h k) }
+pub byte-fits : (x p : ℕ) → x ≤ 255 → p ≤ 510 → Fits w64 (x * p)
+byte-fits x p h k = record { fits = omega (arith, byte-small x p h k) }
 
 pub sum-fits : (s x p : ℕ) → s ≤ 66325500 → x ≤ 255 → p ≤ 510 → Fits w64 (s + x * p)
-sum-fits s x p b h k = record { fits = omega (arith, part-small x p h k) }
+sum-fits s x p b h k = record { fits = omega (arith, byte-small x p h k) }
 
 byte-put : {d : List ℕ} {at sum : ℕ} (x : ℕ) → Summed d at sum → at < 510 → x ≤ 255 → Lengthens d at (x ∷ []) (set d at x) (sum + x * (at + 1))
 byte-put {d} {at} {sum} x s h b =
     let l : at < length d = omega arith in
-    let m = part-small x (at + 1) b (omega arith) in
+    let m = byte-small x (at + 1) b (omega arith) in
     record {
       front = ap (λ (n : ℕ). take n (set d at x)) (add-one at) ∙ take-suc-set d at x l;
       summed = record {

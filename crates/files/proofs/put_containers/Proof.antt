@@ -5,13 +5,13 @@ use lib.ListN.{length}
 use borrow.Author.Needs.{needs}
 use Rattle.formed.specs.Registry.{modelIn}
 use Rattle.files.specs.Tables.{containerBlock}
-use Rattle.files.proofs.TableLaws.{Putting, begins, size, skips, room, appends, ends}
+use Rattle.files.proofs.TableLaws.{TablePut, begins, size, skips, room, appends, ends}
 use Rattle.files.proofs.FileLaws.{free-container, taken-container}
 use Rattle.files.proofs.put_containers.Statement.{statement}
 use Rattle.files.proofs.put_containers.Tie as tie
 
 abbrev Inv-loop : tie.InvT-loop
-Inv-loop memory bytes₀ start at₀ c₀ bytes at c = Putting containerBlock (modelIn memory .containers) bytes₀ start bytes at c
+Inv-loop memory bytes₀ start at₀ c₀ bytes at c = TablePut containerBlock (modelIn memory .containers) bytes₀ start bytes at c
 
 abbrev μ-loop : tie.MeasureT-loop
 μ-loop memory bytes₀ start at₀ c₀ bytes at c = 256 - c

@@ -5,13 +5,13 @@ use lib.ListN.{length}
 use borrow.Author.Needs.{needs}
 use Rattle.formed.specs.Registry.{modelIn}
 use Rattle.files.specs.Tables.{policyBlock}
-use Rattle.files.proofs.TableLaws.{Putting, begins, size, skips, room, appends, ends}
+use Rattle.files.proofs.TableLaws.{TablePut, begins, size, skips, room, appends, ends}
 use Rattle.files.proofs.FileLaws.{free-policy, taken-policy}
 use Rattle.files.proofs.put_policies.Statement.{statement}
 use Rattle.files.proofs.put_policies.Tie as tie
 
 abbrev Inv-loop : tie.InvT-loop
-Inv-loop memory bytes₀ start at₀ q₀ bytes at q = Putting policyBlock (modelIn memory .policies) bytes₀ start bytes at q
+Inv-loop memory bytes₀ start at₀ q₀ bytes at q = TablePut policyBlock (modelIn memory .policies) bytes₀ start bytes at q
 
 abbrev μ-loop : tie.MeasureT-loop
 μ-loop memory bytes₀ start at₀ q₀ bytes at q = 128 - q

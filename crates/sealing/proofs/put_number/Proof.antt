@@ -3,7 +3,7 @@ use Prim.Native.Nat.{_+_, _/_}
 use native.Mathlib.Omega.{arith}
 use lib.ListN.{length-set}
 use borrow.Author.Needs.{needs}
-use Rattle.sealing.proofs.SealingLaws.{part-small, part-fits, sum-fits, number-put}
+use Rattle.sealing.proofs.SealingLaws.{byte-small, byte-fits, sum-fits, number-put}
 use Rattle.sealing.proofs.put_number.Statement.{statement}
 use Rattle.sealing.proofs.put_number.Tie as tie
 
@@ -11,16 +11,16 @@ slice-write-block-2 : tie.Need-slice-write-block-2
 slice-write-block-2 c = simp length-set (omega arith)
 
 mul-result : tie.Need-mul-result
-mul-result c = part-fits _ _ (omega arith) (omega arith)
+mul-result c = byte-fits _ _ (omega arith) (omega arith)
 
 add-result : tie.Need-add-result
 add-result c = sum-fits _ _ _ (omega arith) (omega arith) (omega arith)
 
 mul-result-2 : tie.Need-mul-result-2
-mul-result-2 c = part-fits _ _ (omega arith) (omega arith)
+mul-result-2 c = byte-fits _ _ (omega arith) (omega arith)
 
 add-result-3 : tie.Need-add-result-3
-add-result-3 c = sum-fits _ _ _ (omega (arith, part-small (c .args .number / 256) (c .args .at + 1) (omega arith) (omega arith))) (omega arith) (omega arith)
+add-result-3 c = sum-fits _ _ _ (omega (arith, byte-small (c .args .number / 256) (c .args .at + 1) (omega arith) (omega arith))) (omega arith) (omega arith)
 
 returns : tie.Need-returns
 returns c = number-put (c .pre .0) (c .pre .1) (c .pre .2)
