@@ -1,6 +1,6 @@
 -- Document 02, Note 1: a registry put back into blocks, and what the file gives when it is read again.
 use mathlib.Core.List.{List, [], _∷_, _++_, map, flatten}
-use mathlib.Core.Option.{Option, none, some}
+use mathlib.Core.Option.{none, some}
 use Prim.Native.Nat.{ℕ, _-_}
 use lib.ListN.{length, replicate}
 use Rattle.block.specs.Entry.{Entry, container, policy}

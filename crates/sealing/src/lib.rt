@@ -1,7 +1,7 @@
 // A block made from its first byte on, the checksum's sum being taken on the way.
 ghost use mathlib.Core.Path.{_≡_};
 ghost use Prim.Native.Nat.{_+_, _≤_};
-ghost use lib.ListN.{length, take};
+ghost use lib.ListN.{take};
 ghost use Rattle.block.specs.Written.{numberBytes, sealed};
 ghost use Rattle.sealing.specs.Sealing.{Summed, Lengthens};
 

@@ -1,6 +1,6 @@
 -- Document 02, Note 1: what a file gives that a registry was written to, when it is opened and admitted again block by block.
 use mathlib.Core.Path.{_≡_}
-use mathlib.Core.Bool.{true, false}
+use mathlib.Core.Bool.{true}
 use mathlib.Core.List.{List}
 use Prim.Native.Nat.{ℕ, _<_, _≤_}
 use lib.ListN.{length, getD}
