@@ -1,5 +1,6 @@
 // The calls for C, Rust and others: numbers and slices only. An answer is one number: the refusal's number in the top byte, 0 where
-// the call was accepted, and below it the slot, 0 or 1, the finding, how many findings were put into a list, the counts, or how many bytes were written.
+// the call was accepted, and below it the slot, 0 or 1, the finding, how many findings were put into a list, the counts, or how many
+// bytes were written.
 ghost use mathlib.Core.Path.{_≡_};
 ghost use lib.ListN.{length};
 ghost use Rattle.buffer.specs.Buffer.{overwritten};

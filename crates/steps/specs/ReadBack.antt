@@ -16,11 +16,11 @@ use Rattle.formed.specs.Registry.{modelIn, bitsIn, registryIn, ValidEntries, we
 use Rattle.steps.specs.MemoryStep.{memoryStep}
 
 -- the slot of the i-th standing container, of the i-th standing policy
-abbrev pub containerNumber : Model → ℕ → ℕ
-containerNumber m i = getD (containersOf m) i 0
+abbrev pub nthContainer : Model → ℕ → ℕ
+nthContainer m i = getD (containersOf m) i 0
 
-abbrev pub policyNumber : Model → ℕ → ℕ
-policyNumber m i = getD (policiesOf m) i 0
+abbrev pub nthPolicy : Model → ℕ → ℕ
+nthPolicy m i = getD (policiesOf m) i 0
 
 -- Of a model m, whatever model reads its file.
 pub record ReadBack (m : Model) : Type 0 where
@@ -28,11 +28,11 @@ pub record ReadBack (m : Model) : Type 0 where
   pub read : (other : Model) → run modelStep other (reading (blocksOf (fileOf m))) ≡ (closedUp m, readAnswers m)
   -- "the matrix is the old one with the rows and columns of empty places left out", and so the policies' sets
   pub matrix : (i j : ℕ) → i < length (containersOf m) → j < length (containersOf m)
-      → computedBits (closedUp m) .matrix i j ≡ computedBits m .matrix (containerNumber m i) (containerNumber m j)
+      → computedBits (closedUp m) .matrix i j ≡ computedBits m .matrix (nthContainer m i) (nthContainer m j)
   pub selected : (q i : ℕ) → q < length (policiesOf m) → i < length (containersOf m)
-      → computedBits (closedUp m) .selected q i ≡ computedBits m .selected (policyNumber m q) (containerNumber m i)
+      → computedBits (closedUp m) .selected q i ≡ computedBits m .selected (nthPolicy m q) (nthContainer m i)
   pub allowed : (q i : ℕ) → q < length (policiesOf m) → i < length (containersOf m)
-      → computedBits (closedUp m) .allowed q i ≡ computedBits m .allowed (policyNumber m q) (containerNumber m i)
+      → computedBits (closedUp m) .allowed q i ≡ computedBits m .allowed (nthPolicy m q) (nthContainer m i)
   -- "Writing the new book gives the same file."
   pub again : fileOf (closedUp m) ≡ fileOf m
 
@@ -48,11 +48,11 @@ pub record CarriedOver (old other file left : List ℕ) : Type 0 where
   pub inStep : consistent (registryIn left) ≡ true
   -- "If the old book was in step, the matrix is the old one with the rows and columns of empty places left out."
   pub matrix : consistent (registryIn old) ≡ true → (i j : ℕ) → i < length (containersOf (modelIn old)) → j < length (containersOf (modelIn old))
-      → bitsIn left .matrix i j ≡ bitsIn old .matrix (containerNumber (modelIn old) i) (containerNumber (modelIn old) j)
+      → bitsIn left .matrix i j ≡ bitsIn old .matrix (nthContainer (modelIn old) i) (nthContainer (modelIn old) j)
   pub selected : consistent (registryIn old) ≡ true → (q i : ℕ) → q < length (policiesOf (modelIn old)) → i < length (containersOf (modelIn old))
-      → bitsIn left .selected q i ≡ bitsIn old .selected (policyNumber (modelIn old) q) (containerNumber (modelIn old) i)
+      → bitsIn left .selected q i ≡ bitsIn old .selected (nthPolicy (modelIn old) q) (nthContainer (modelIn old) i)
   pub allowed : consistent (registryIn old) ≡ true → (q i : ℕ) → q < length (policiesOf (modelIn old)) → i < length (containersOf (modelIn old))
-      → bitsIn left .allowed q i ≡ bitsIn old .allowed (policyNumber (modelIn old) q) (containerNumber (modelIn old) i)
+      → bitsIn left .allowed q i ≡ bitsIn old .allowed (nthPolicy (modelIn old) q) (nthContainer (modelIn old) i)
   -- "Writing the new book gives the same file.": into every buffer that the file fits in
   pub again : (n : ℕ) → length file ≤ n → memoryStep left (ask (write n)) ≡ (left, filePut file)
 
