@@ -15,28 +15,35 @@ static void fail(const char *what, const char *why) {
     exit(1);
 }
 
-/* A memory with the registry of a file. */
+/* A memory with the registry of a file, which is opened by its first block; the others are admitted in batches. */
 static uint64_t *registry(FILE *file, const char *name) {
-    size_t words = (size_t)bihokura_words();
+    static uint8_t blocks[65536];
+    uint16_t answers[256];
+    struct bihokura_tally tally = {0, 0};
+    size_t words = (size_t)bihokura_words(), n = 1;
     uint64_t *memory = calloc(words, sizeof *memory);
-    uint8_t block[512];
-    size_t got, n = 0;
     if (memory == NULL) {
         fail("memory", strerror(errno));
     }
-    while ((got = fread(block, 1, sizeof block, file)) > 0) {
-        uint64_t answer = n == 0 ? bihokura_open(memory, words, block, got) : bihokura_admit(memory, words, block, got);
-        n++;
-        if (BIHOKURA_REFUSAL(answer) != 0) {
-            printf("block %zu refused with %u\n", n, BIHOKURA_REFUSAL(answer));
+    size_t got = fread(blocks, 1, 512, file);
+    unsigned refusal = BIHOKURA_REFUSAL(bihokura_open(memory, words, blocks, got));
+    while (refusal == 0 && (got = fread(blocks, 1, sizeof blocks, file)) > 0) {
+        refusal = BIHOKURA_REFUSAL(bihokura_admit_batch(memory, words, blocks, got, answers, 256, &tally));
+        for (size_t i = 0; refusal == 0 && i < got / 512; i++) {
+            n++;
+            if (answers[2 * i] != 0) {
+                printf("block %zu refused with %u\n", n, (unsigned)answers[2 * i]);
+            }
         }
     }
     if (ferror(file)) {
         fail(name, strerror(errno));
     }
-    if (BIHOKURA_REFUSAL(bihokura_counts(memory, words)) != 0) {
-        fail(name, "no registry was opened");
+    if (refusal != 0) {
+        fprintf(stderr, "from_c: %s: refused with %u\n", name, refusal);
+        exit(1);
     }
+    printf("blocks taken %llu, refused %llu\n", (unsigned long long)tally.taken, (unsigned long long)tally.refused);
     return memory;
 }
 

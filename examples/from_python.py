@@ -10,24 +10,27 @@ if len(sys.argv) != 3:
     sys.exit("usage: from_python.py LIBRARY FILE < BLOCKS")
 library, name = ctypes.CDLL(sys.argv[1]), sys.argv[2]
 u64, size = ctypes.c_uint64, ctypes.c_size_t
-for call in ("words", "open", "admit", "counts", "findings", "audit", "write"):
+for call in ("words", "open", "admit_batch", "counts", "findings", "audit", "write"):
     getattr(library, "bihokura_" + call).restype = u64
 
 words = library.bihokura_words()
 
 
 def registry(file):
-    """A memory with the registry of a file, its containers, policies and pairs."""
-    memory = (u64 * words)()
-    call = library.bihokura_open
-    while block := file.read(512):
-        answer = call(memory, size(words), block, size(len(block)))
-        if answer >> 56:
-            print("refused with", answer >> 56)
-        call = library.bihokura_admit
+    """A memory with the registry of a file, its containers, policies and pairs. The blocks behind the first come in batches."""
+    memory, answers, tally = (u64 * words)(), (ctypes.c_uint16 * 256)(), (u64 * 2)()
+    block = file.read(512)
+    refusal = library.bihokura_open(memory, size(words), block, size(len(block))) >> 56
+    while not refusal and (blocks := file.read(65536)):
+        lent = (blocks, size(len(blocks)), answers, size(len(answers)), tally)
+        refusal = library.bihokura_admit_batch(memory, size(words), *lent) >> 56
+        for number in answers[: len(blocks) // 256 : 2]:
+            if number and not refusal:
+                print("refused with", number)
+    if refusal:
+        sys.exit(f"refused with {refusal}")
+    print("blocks taken {}, refused {}".format(*tally))
     counts = library.bihokura_counts(memory, size(words))
-    if counts >> 56:
-        sys.exit("no registry was opened")
     return memory, (counts & 0xFFFF, counts >> 16 & 0xFFFF, counts >> 32)
 
 

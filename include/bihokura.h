@@ -1,6 +1,6 @@
 /* Bihokura: a proved register of containers and network policies.
  *
- * Every function takes the memory as a pointer and its number of 64-bit words, a block or a buffer for blocks as a pointer and its
+ * Every function takes the memory as a pointer and its number of 64-bit words, a block or a buffer of blocks as a pointer and its
  * length in bytes, a list as a pointer and how many numbers it has room for, and answers one number. Its top byte is the refusal's
  * number of document 01 or, from 13 on, of 02, 0 where the call was accepted; a refused call answers nothing else and leaves
  * everything lent as it was. Below the top byte stands what the call answers. No function keeps a pointer. Memory of any size and
@@ -26,6 +26,18 @@ uint64_t bihokura_open(uint64_t *memory, size_t words, const uint8_t *block, siz
 /* Admits the container or the policy of a block, and answers the slot that it took: of the table that byte 0 of the block names, 67
  * for containers and 80 for policies. The answer itself does not say which. */
 uint64_t bihokura_admit(uint64_t *memory, size_t words, const uint8_t *block, size_t length);
+
+/* How many blocks were taken, and how many refused. */
+struct bihokura_tally {
+    uint64_t taken, refused;
+};
+
+/* Admits up to 128 blocks, one after another in one pass: registry and answers are those of bihokura_admit for each. For each block
+ * it puts two numbers into the list: 0 and the slot, or the refusal and 0. The rest of the list is kept. The tally goes up by the
+ * blocks taken and by those refused; a count that has reached 2^64 - 1 stays there. Answers 0, also for no blocks at all. A length
+ * over 65,536 or not a multiple of 512 is refused with 14, then a list of fewer than two numbers for each block with 13. */
+uint64_t bihokura_admit_batch(uint64_t *memory, size_t words, const uint8_t *blocks, size_t length, uint16_t *answers, size_t numbers,
+                              struct bihokura_tally *tally);
 
 /* Removes the entry of a slot. Answers 0. */
 uint64_t bihokura_remove_container(uint64_t *memory, size_t words, uint64_t slot);

@@ -42,3 +42,11 @@ pub const fn counted(containers: u64, policies: u64, pairs: u64) -> u64 {
 pub const fn counts(answer: u64) -> (u64, u64, u64) {
     (answer & 0xffff, (answer >> 16) & 0xffff, answer >> 32)
 }
+
+/// The tally that a batch is lent: how many blocks were taken, and how many refused.
+#[repr(C)]
+#[derive(Clone, Copy, Default, PartialEq, Eq, Debug)]
+pub struct Tally {
+    pub taken: u64,
+    pub refused: u64,
+}

@@ -2,12 +2,14 @@
 //! test of the whole memory before each call, candidate sets from the entries. It is what the benchmarks compare with, by either
 //! of two sets of algorithms: `ByTrials`, those of the first release, and `ByLabels`, those of the register today.
 
-use crate::answers::{answer, code, counted, refused, Finding};
+use crate::answers::{answer, code, counted, refused, Finding, Tally};
 use crate::layout::{self, *};
 
+mod blocks;
 mod labels;
 mod trials;
 
+use blocks::{read_entry, read_settings, Block, Entry, Part};
 pub use labels::{first_place, ByLabels};
 pub use trials::ByTrials;
 
@@ -15,30 +17,37 @@ pub type Row = [u64; ROW_WORDS];
 
 const EMPTY: Row = [0; ROW_WORDS];
 
+#[inline]
 fn has(row: &Row, i: usize) -> bool {
     row[i / 64] >> (i % 64) & 1 == 1
 }
 
+#[inline]
 fn put(row: &mut Row, i: usize) {
     row[i / 64] |= 1 << (i % 64);
 }
 
+#[inline]
 fn both(a: Row, b: Row) -> Row {
     std::array::from_fn(|k| a[k] & b[k])
 }
 
+#[inline]
 fn either(a: Row, b: Row) -> Row {
     std::array::from_fn(|k| a[k] | b[k])
 }
 
+#[inline]
 fn except(a: Row, b: Row) -> Row {
     std::array::from_fn(|k| a[k] & !b[k])
 }
 
+#[inline]
 fn is_empty(a: &Row) -> bool {
     a[0] | a[1] | a[2] | a[3] == 0
 }
 
+#[inline]
 fn within(a: Row, b: Row) -> bool {
     is_empty(&except(a, b))
 }
@@ -55,15 +64,24 @@ fn next_from(row: &Row, from: usize) -> Option<usize> {
     None
 }
 
+#[inline]
 fn row_at(m: &[u64], r: usize) -> Row {
     let at = layout::row(r);
     [m[at], m[at + 1], m[at + 2], m[at + 3]]
 }
 
+#[inline]
 fn set_row(m: &mut [u64], r: usize, row: Row) {
     m[layout::row(r)..layout::row(r + 1)].copy_from_slice(&row);
 }
 
+/// The bits of row r at these places.
+#[inline]
+fn set_bits(m: &mut [u64], r: usize, row: Row, places: Row) {
+    set_row(m, r, either(except(row_at(m, r), places), both(row, places)));
+}
+
+#[inline]
 fn set_bit(m: &mut [u64], r: usize, b: usize, bit: bool) {
     let w = &mut m[layout::row(r) + b / 64];
     *w = *w & !(1 << (b % 64)) | u64::from(bit) << (b % 64);
@@ -140,16 +158,8 @@ pub fn well_formed(m: &[u64]) -> bool {
     true
 }
 
-// ---- blocks
-
-fn number(b: &[u8], at: usize) -> u64 {
-    u64::from(b[at]) * 256 + u64::from(b[at + 1])
-}
-
 /// Where the two sets of algorithms differ.
 pub trait Algorithms {
-    /// Whether all of these bytes are zero.
-    fn zero(bytes: &[u8]) -> bool;
     /// Of the standing containers, those that the part matches.
     fn part_row(m: &[u64], part: usize, containers: Row) -> Row;
     /// Container c's bits by the rules, after its entry was stored.
@@ -162,110 +172,22 @@ pub trait Algorithms {
     fn sets(m: &[u64], s: &mut Sets);
     /// Every row of the matrix by the rules.
     fn rows(s: &Sets, each: impl FnMut(usize, Row));
+    /// The blocks admitted, and for each its two numbers.
+    fn batch(m: &mut [u64], blocks: &[Block], numbers: &mut [[u16; 2]]);
 }
 
-fn frame(b: &[u8]) -> Result<(), u64> {
-    if b.len() != 512 {
-        return Err(3);
-    }
-    let mut sum = 0u64;
-    for (i, x) in b[..510].iter().enumerate() {
-        sum += u64::from(*x) * (i as u64 + 1);
-    }
-    if number(b, 510) == sum % 65521 {
-        Ok(())
-    } else {
-        Err(4)
-    }
-}
-
-/// Words of a part: the header, then the labels.
-fn labels(b: &[u8], at: usize, n: usize) -> ([u64; CONTAINER_WORDS], bool, bool) {
-    let mut words = [0; CONTAINER_WORDS];
-    words[0] = 1 + n as u64;
-    let (mut range, mut order, mut last) = (true, true, 0);
-    for k in 0..n {
-        let (key, value) = (number(b, at + 4 * k), number(b, at + 4 * k + 2));
-        range &= (1..=64).contains(&key) && value != 0;
-        order &= key > last;
-        last = key;
-        words[k + 1] = label_word(key, value);
-    }
-    (words, range, order)
-}
-
-pub enum Entry {
-    Container([u64; CONTAINER_WORDS]),
-    Policy([u64; POLICY_WORDS]),
-}
-
-pub fn read_entry<A: Algorithms>(b: &[u8]) -> Result<Entry, u64> {
-    frame(b)?;
-    let zero = |from: usize| A::zero(&b[from..510]);
-    match b[0] {
-        67 => {
-            let n = usize::from(b[1]);
-            if n > 8 {
-                return Err(6);
-            }
-            let (words, range, order) = labels(b, 4, n);
-            if !range {
-                return Err(7);
-            }
-            if !order {
-                return Err(8);
-            }
-            if b[2] != 0 || b[3] != 0 || !zero(4 + 4 * n) {
-                return Err(9);
-            }
-            Ok(Entry::Container(words))
-        }
-        80 => {
-            let (d, s, a) = (b[1], usize::from(b[2]), usize::from(b[3]));
-            if d == 0 || d > 2 || s > 4 || a > 4 {
-                return Err(6);
-            }
-            let (select, r1, o1) = labels(b, 4, s);
-            let (allow, r2, o2) = labels(b, 4 + 4 * s, a);
-            if !(r1 && r2) {
-                return Err(7);
-            }
-            if !(o1 && o2) {
-                return Err(8);
-            }
-            if !zero(4 + 4 * (s + a)) {
-                return Err(9);
-            }
-            let mut words = [0; POLICY_WORDS];
-            words[0] = u64::from(d);
-            words[SELECT..ALLOW].copy_from_slice(&select[..PART_WORDS]);
-            words[ALLOW..].copy_from_slice(&allow[..PART_WORDS]);
-            Ok(Entry::Policy(words))
-        }
-        _ => Err(5),
-    }
-}
-
-pub fn open<A: Algorithms>(m: &mut [u64], b: &[u8]) -> u64 {
+pub fn open(m: &mut [u64], b: &[u8]) -> u64 {
     if m.len() != WORDS {
         return refused(1);
     }
-    if let Err(n) = frame(b) {
-        return refused(n);
+    match read_settings(b) {
+        Ok(s) => {
+            m.fill(0);
+            (m[USER_KEY], m[SYSTEM_KEY], m[SYSTEM_VALUE]) = (s.user.into(), s.key.into(), s.value.into());
+            0
+        }
+        Err(n) => refused(n),
     }
-    if b[0] != 83 {
-        return refused(5);
-    }
-    let (user, key, value) = (u64::from(b[1]), u64::from(b[2]), number(b, 4));
-    if user == 0 || user > 64 || key > 64 || (key == 0) != (value == 0) {
-        return refused(7);
-    }
-    if b[3] != 0 || !A::zero(&b[6..510]) {
-        return refused(9);
-    }
-    m.fill(0);
-    m[..SETTINGS_WORDS].copy_from_slice(&[user, key, value]);
-    0
 }
 
 // ---- by the rules, as both do it
@@ -351,8 +273,9 @@ fn set_container(m: &mut [u64], s: &Sets, c: usize) {
 
 // ---- calls
 
-fn lowest_free(m: &[u64], (start, words, slots): Table) -> Option<usize> {
-    (0..slots).find(|i| m[start + words * i] == 0)
+/// The lowest free slot from a slot on.
+fn free_from(m: &[u64], (start, words, slots): Table, from: usize) -> Option<usize> {
+    (from..slots).find(|i| m[start + words * i] == 0)
 }
 
 fn tested(m: &[u64]) -> Result<(), u64> {
@@ -365,24 +288,52 @@ fn tested(m: &[u64]) -> Result<(), u64> {
     Ok(())
 }
 
+fn store_part<const N: usize>(m: &mut [u64], at: usize, part: &Part<N>) {
+    m[at] = 1 + part.count as u64;
+    m[at + 1..=at + N].iter_mut().zip(part.labels).for_each(|(to, label)| *to = u64::from(label));
+}
+
+/// An entry's words at slot i of its table.
+fn store(m: &mut [u64], i: usize, entry: &Entry) {
+    match entry {
+        Entry::Container(labels) => store_part(m, layout::container(i), labels),
+        Entry::Policy(direction, select, allow) => {
+            let at = layout::policy(i);
+            m[at] = u64::from(*direction);
+            store_part(m, at + SELECT, select);
+            store_part(m, at + ALLOW, allow);
+        }
+    }
+}
+
 pub fn admit<A: Algorithms>(m: &mut [u64], b: &[u8]) -> u64 {
     answer((|| {
         tested(m)?;
-        match read_entry::<A>(b)? {
-            Entry::Container(words) => {
-                let c = lowest_free(m, CONTAINER_TABLE).ok_or(12u64)?;
-                m[layout::container(c)..layout::container(c + 1)].copy_from_slice(&words);
-                A::container_admitted(m, c);
-                Ok(c as u64)
-            }
-            Entry::Policy(words) => {
-                let q = lowest_free(m, POLICY_TABLE).ok_or(12u64)?;
-                let at = layout::policy(q);
-                m[at..at + POLICY_WORDS].copy_from_slice(&words);
-                A::policy_admitted(m, q);
-                Ok(q as u64)
-            }
+        let entry = read_entry(b)?;
+        let (table, admitted): (Table, fn(&mut [u64], usize)) = match entry {
+            Entry::Container(_) => (CONTAINER_TABLE, A::container_admitted),
+            Entry::Policy(..) => (POLICY_TABLE, A::policy_admitted),
+        };
+        let i = free_from(m, table, 0).ok_or(12u64)?;
+        store(m, i, &entry);
+        admitted(m, i);
+        Ok(i as u64)
+    })())
+}
+
+pub fn admit_batch<A: Algorithms>(m: &mut [u64], blocks: &[u8], numbers: &mut [u16], tally: &mut Tally) -> u64 {
+    answer((|| {
+        tested(m)?;
+        let (blocks, rest) = blocks.as_chunks();
+        if blocks.len() > 128 || !rest.is_empty() {
+            return Err(14);
         }
+        let numbers = numbers.as_chunks_mut().0.get_mut(..blocks.len()).ok_or(13u64)?;
+        A::batch(m, blocks, numbers);
+        let taken = numbers.iter().filter(|n| n[0] == 0).count();
+        tally.taken = tally.taken.saturating_add(taken as u64);
+        tally.refused = tally.refused.saturating_add((blocks.len() - taken) as u64);
+        Ok(0)
     })())
 }
 
@@ -624,8 +575,6 @@ pub fn next_finding(m: &[u64], after: Finding) -> u64 {
 }
 
 // ---- the file
-
-type Block = [u8; 512];
 
 /// The labels of a part, from byte `at` on. Answers what they add to the checksum's sum.
 fn put_labels(b: &mut Block, at: usize, words: &[u64]) -> u32 {

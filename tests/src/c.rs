@@ -1,6 +1,6 @@
 //! The C interface, as include/bihokura.h declares it, behind safe functions.
 
-use crate::answers::Finding;
+use crate::answers::{Finding, Tally};
 
 extern "C" {
     fn bihokura_words() -> u64;
@@ -16,6 +16,15 @@ extern "C" {
     fn bihokura_rebuild(memory: *mut u64, words: usize) -> u64;
     fn bihokura_audit(memory: *const u64, words: usize) -> u64;
     fn bihokura_write(memory: *const u64, words: usize, bytes: *mut u8, length: usize) -> u64;
+    fn bihokura_admit_batch(
+        memory: *mut u64,
+        words: usize,
+        blocks: *const u8,
+        length: usize,
+        answers: *mut u16,
+        numbers: usize,
+        tally: *mut Tally,
+    ) -> u64;
 }
 
 pub fn words() -> usize {
@@ -68,4 +77,9 @@ pub fn audit(memory: &[u64]) -> u64 {
 
 pub fn write(memory: &[u64], bytes: &mut [u8]) -> u64 {
     unsafe { bihokura_write(memory.as_ptr(), memory.len(), bytes.as_mut_ptr(), bytes.len()) }
+}
+
+pub fn admit_batch(memory: &mut [u64], blocks: &[u8], answers: &mut [u16], tally: &mut Tally) -> u64 {
+    let (words, length, numbers) = (memory.len(), blocks.len(), answers.len());
+    unsafe { bihokura_admit_batch(memory.as_mut_ptr(), words, blocks.as_ptr(), length, answers.as_mut_ptr(), numbers, tally) }
 }

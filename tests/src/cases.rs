@@ -1,6 +1,6 @@
 //! Random blocks, calls and memories. Few keys and values, so that labels often agree.
 
-use crate::answers::{outcome, Finding};
+use crate::answers::{outcome, Finding, Tally};
 use crate::bytes::{self, Pair, EGRESS, INGRESS};
 use crate::c;
 use crate::layout::{CONTAINERS, CONTAINER_SLOTS, POLICIES, POLICY_SLOTS, SETTINGS_WORDS, WORDS};
@@ -89,8 +89,44 @@ fn buffer(r: &mut Random) -> Vec<u8> {
     r.bytes(n)
 }
 
+/// So many blocks to admit, of eight one with faults.
+pub fn batch(r: &mut Random, blocks: usize) -> Vec<u8> {
+    let mut all = vec![];
+    for i in 1..=blocks {
+        all.extend(match r.below(8) {
+            0 => damaged(r),
+            1..=3 => policy(r),
+            _ => container(r),
+        });
+        all.resize(512 * i, 0);
+    }
+    all
+}
+
+/// Counts at which a tally stays, near that, and any.
+pub fn tally(r: &mut Random) -> Tally {
+    let mut count = || match r.below(4) {
+        0 => u64::MAX,
+        1 => u64::MAX - r.below(8),
+        2 => r.below(8),
+        _ => r.number(),
+    };
+    Tally { taken: count(), refused: count() }
+}
+
+/// A batch of a few blocks, once in eight of a length that is no whole number of them. The list is long enough, or one short.
+fn admit_batch(r: &mut Random) -> Call {
+    let n = r.below(7) as usize;
+    let mut bytes = batch(r, n);
+    if r.once_in(8) {
+        bytes.resize(512 * n + 1 + r.below(511) as usize, 0);
+    }
+    let room = *r.pick(&[2 * n, 2 * n, 2 * n + 1, 2 * n + 5, (2 * n).saturating_sub(1)]);
+    Call::AdmitBatch(bytes, r.numbers(room), tally(r))
+}
+
 pub fn call(r: &mut Random) -> Call {
-    match r.below(34) {
+    match r.below(36) {
         0..=8 => Call::Admit(container(r)),
         9..=13 => Call::Admit(policy(r)),
         14 | 31 => Call::Admit(damaged(r)),
@@ -104,6 +140,7 @@ pub fn call(r: &mut Random) -> Call {
         27 => Call::Audit,
         28 => Call::Open(if r.once_in(3) { settings(r) } else { damaged(r) }),
         32 | 33 => Call::Write(buffer(r)),
+        34 | 35 => admit_batch(r),
         _ => {
             let n = if r.once_in(3) { *r.pick(&LISTS) } else { r.below(40) as usize };
             findings(r, n)

@@ -12,6 +12,9 @@ use std::time::{Duration, Instant};
 /// The program, and the script that runs it and ends with a status.
 pub const PROGRAM: &str = concat!(env!("CARGO_MANIFEST_DIR"), "/../target/bin/lister");
 pub const SCRIPT: &str = concat!(env!("CARGO_MANIFEST_DIR"), "/../bin/lister");
+/// The same in plain Rust, as build.rs compiled it: linked as the program is, and statically.
+pub const FAST: &str = env!("FAST_LISTER");
+pub const FAST_STATIC: &str = env!("STATIC_FAST_LISTER");
 
 /// Far longer than any of them takes: only so that one that hangs fails.
 pub const LIMIT: Duration = Duration::from_secs(60);

@@ -36,6 +36,11 @@ impl Random {
         (0..n).map(|_| self.number()).collect()
     }
 
+    /// So many random numbers of 16 bits.
+    pub fn numbers(&mut self, n: usize) -> Vec<u16> {
+        (0..n).map(|_| self.number() as u16).collect()
+    }
+
     /// So many random bytes.
     pub fn bytes(&mut self, n: usize) -> Vec<u8> {
         self.words(n.div_ceil(8)).into_iter().flat_map(u64::to_le_bytes).take(n).collect()

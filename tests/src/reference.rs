@@ -1,7 +1,7 @@
 //! A register written separately from documents 01 and 02, for comparison: plain vectors, every rule by its sentence, no thought of
 //! speed.
 
-use crate::answers::{answer, code, counted, Finding};
+use crate::answers::{answer, code, counted, Finding, Tally};
 use crate::bytes::{self, Pair};
 use crate::layout::{self, *};
 
@@ -456,45 +456,50 @@ pub enum Call {
     Audit,
     /// With the bytes of the buffer that is lent.
     Write(Vec<u8>),
+    /// The blocks, with the numbers of the list and the tally that are lent.
+    AdmitBatch(Vec<u8>, Vec<u16>, Tally),
+}
+
+/// What a call is lent to write into, beside the memory: the list of `Findings`, the buffer of `Write`, the list and the tally of
+/// `AdmitBatch`.
+#[derive(Clone, Default, PartialEq, Eq, Debug)]
+pub struct Lent {
+    pub list: Vec<u64>,
+    pub bytes: Vec<u8>,
+    pub numbers: Vec<u16>,
+    pub tally: Tally,
 }
 
 impl Call {
-    /// The list that the call is lent; no other call than `Findings` is lent one.
-    pub fn list(&self) -> Vec<u64> {
-        match self {
-            Call::Findings(_, list) => list.clone(),
-            _ => Vec::new(),
-        }
-    }
-
-    /// The buffer that the call is lent; no other call than `Write` is lent one.
-    pub fn bytes(&self) -> Vec<u8> {
-        match self {
-            Call::Write(bytes) => bytes.clone(),
-            _ => Vec::new(),
+    /// What the call is lent; of what no such call is lent, nothing.
+    pub fn lent(&self) -> Lent {
+        match self.clone() {
+            Call::Findings(_, list) => Lent { list, ..Lent::default() },
+            Call::Write(bytes) => Lent { bytes, ..Lent::default() },
+            Call::AdmitBatch(_, numbers, tally) => Lent { numbers, tally, ..Lent::default() },
+            _ => Lent::default(),
         }
     }
 }
 
-/// What a call leaves of the memory, the list and the buffer it was lent, and its answer.
+/// What a call leaves of the memory and of what else it was lent, and its answer.
 #[derive(Clone, PartialEq, Eq, Debug)]
 pub struct Left {
     pub memory: Vec<u64>,
-    pub list: Vec<u64>,
-    pub bytes: Vec<u8>,
+    pub lent: Lent,
     pub answer: u64,
 }
 
 pub fn step(memory: &[u64], call: &Call) -> Left {
-    let (mut list, mut bytes) = (call.list(), call.bytes());
-    match changed(memory, call, &mut list, &mut bytes) {
-        Ok((r, value)) => Left { memory: r.encode(), list, bytes, answer: answer(Ok(value)) },
-        Err(n) => Left { memory: memory.to_vec(), list, bytes, answer: answer(Err(n)) },
+    let mut lent = call.lent();
+    match changed(memory, call, &mut lent) {
+        Ok((r, value)) => Left { memory: r.encode(), lent, answer: answer(Ok(value)) },
+        Err(n) => Left { memory: memory.to_vec(), lent, answer: answer(Err(n)) },
     }
 }
 
 /// The register that an accepted call leaves, and the value that it answers.
-fn changed(memory: &[u64], call: &Call, list: &mut [u64], bytes: &mut [u8]) -> Result<(Register, u64), u64> {
+fn changed(memory: &[u64], call: &Call, lent: &mut Lent) -> Result<(Register, u64), u64> {
     if memory.len() != WORDS {
         return Err(1);
     }
@@ -502,8 +507,45 @@ fn changed(memory: &[u64], call: &Call, list: &mut [u64], bytes: &mut [u8]) -> R
         return Ok((Register::opened(read_settings(block)?), 0));
     }
     let mut r = Register::decode(memory).ok_or(2u64)?;
-    let value = run(&mut r, call, list, bytes)?;
+    let value = run(&mut r, call, lent)?;
     Ok((r, value))
+}
+
+/// The slot that the entry of a block takes.
+fn admit(r: &mut Register, block: &[u8]) -> Result<usize, u64> {
+    match read_entry(block)? {
+        Entry::Container(x) => {
+            let c = r.containers.iter().position(|s| s.is_none()).ok_or(12u64)?;
+            r.containers[c] = Some(x);
+            r.container_changed(c);
+            Ok(c)
+        }
+        Entry::Policy(p) => {
+            let q = r.policies.iter().position(|s| s.is_none()).ok_or(12u64)?;
+            r.policies[q] = Some(p.clone());
+            r.policy_changed(q, &p);
+            Ok(q)
+        }
+    }
+}
+
+/// The blocks of a batch one after another, each with its two numbers and its count in the tally.
+fn admit_batch(r: &mut Register, bytes: &[u8], numbers: &mut [u16], tally: &mut Tally) -> Result<u64, u64> {
+    if bytes.len() > 65_536 || !bytes.len().is_multiple_of(512) {
+        return Err(14);
+    }
+    if numbers.len() < 2 * (bytes.len() / 512) {
+        return Err(13);
+    }
+    for (i, block) in bytes.chunks(512).enumerate() {
+        let (first, second, count) = match admit(r, block) {
+            Ok(slot) => (0, slot as u16, &mut tally.taken),
+            Err(n) => (n as u16, 0, &mut tally.refused),
+        };
+        (numbers[2 * i], numbers[2 * i + 1]) = (first, second);
+        *count = count.saturating_add(1);
+    }
+    Ok(0)
 }
 
 fn slot(table: usize, stands: impl Fn(usize) -> bool, i: u64) -> Result<usize, u64> {
@@ -516,23 +558,10 @@ fn slot(table: usize, stands: impl Fn(usize) -> bool, i: u64) -> Result<usize, u
     Ok(i as usize)
 }
 
-fn run(r: &mut Register, call: &Call, list: &mut [u64], bytes: &mut [u8]) -> Result<u64, u64> {
+fn run(r: &mut Register, call: &Call, lent: &mut Lent) -> Result<u64, u64> {
     match call {
         Call::Open(_) => unreachable!(),
-        Call::Admit(block) => match read_entry(block)? {
-            Entry::Container(x) => {
-                let c = r.containers.iter().position(|s| s.is_none()).ok_or(12u64)?;
-                r.containers[c] = Some(x);
-                r.container_changed(c);
-                Ok(c as u64)
-            }
-            Entry::Policy(p) => {
-                let q = r.policies.iter().position(|s| s.is_none()).ok_or(12u64)?;
-                r.policies[q] = Some(p.clone());
-                r.policy_changed(q, &p);
-                Ok(q as u64)
-            }
-        },
+        Call::Admit(block) => admit(r, block).map(|slot| slot as u64),
         Call::RemoveContainer(i) => {
             let c = slot(CONTAINER_SLOTS, |c| r.containers[c].is_some(), *i)?;
             r.containers[c] = None;
@@ -560,8 +589,8 @@ fn run(r: &mut Register, call: &Call, list: &mut [u64], bytes: &mut [u8]) -> Res
         }
         Call::NextFinding(after) => Ok(r.findings().into_iter().find(|f| f > after).map_or(0, code)),
         Call::Findings(after, _) => {
-            let some: Vec<u64> = r.findings().into_iter().filter(|f| f > after).take(list.len()).map(code).collect();
-            list[..some.len()].copy_from_slice(&some);
+            let some: Vec<u64> = r.findings().into_iter().filter(|f| f > after).take(lent.list.len()).map(code).collect();
+            lent.list[..some.len()].copy_from_slice(&some);
             Ok(some.len() as u64)
         }
         Call::Counts => Ok(counted(r.standing().len() as u64, r.standing_policies().len() as u64, r.pairs() as u64)),
@@ -572,11 +601,12 @@ fn run(r: &mut Register, call: &Call, list: &mut [u64], bytes: &mut [u8]) -> Res
         Call::Audit => Ok(u64::from(r.is_consistent())),
         Call::Write(_) => {
             let file = r.file();
-            if bytes.len() < file.len() {
+            if lent.bytes.len() < file.len() {
                 return Err(13);
             }
-            bytes[..file.len()].copy_from_slice(&file);
+            lent.bytes[..file.len()].copy_from_slice(&file);
             Ok(file.len() as u64)
         }
+        Call::AdmitBatch(bytes, ..) => admit_batch(r, bytes, &mut lent.numbers, &mut lent.tally),
     }
 }

@@ -50,11 +50,24 @@ impl Registry {
     /// The memory after an open and the admission of this many of its entries.
     pub fn memory_of(&self, containers: usize, policies: usize) -> Vec<u64> {
         let mut m = vec![0; WORDS];
-        assert_eq!(outcome(b::open::<ByLabels>(&mut m, &settings())), Ok(0));
+        assert_eq!(outcome(b::open(&mut m, &settings())), Ok(0));
         for block in self.containers[..containers].iter().chain(&self.policies[..policies]) {
             assert!(outcome(b::admit::<ByLabels>(&mut m, block)).is_ok());
         }
         m
+    }
+
+    /// 128 blocks of its entries behind this many: 85 containers and 43 policies, two of the first and one of the second by turns.
+    pub fn batch(&self, containers: usize, policies: usize) -> Vec<u8> {
+        let (mut cs, mut ps) = (self.containers[containers..].iter(), self.policies[policies..].iter());
+        let mut next = |i: usize| if i % 3 == 1 { ps.next() } else { cs.next() };
+        (0..128).flat_map(|i| next(i).unwrap().clone()).collect()
+    }
+
+    /// What lister reads: the settings and so many of its entries.
+    pub fn stream(&self, containers: usize, policies: usize) -> Vec<u8> {
+        let entries = self.containers[..containers].iter().chain(&self.policies[..policies]);
+        settings().into_iter().chain(entries.flatten().copied()).collect()
     }
 
     /// The memory with all of its entries.
@@ -90,6 +103,17 @@ pub fn all() -> Vec<Registry> {
     let mut t = Random::new(2);
     let seven = Registry::new("7", Vec::new, || pick(&mut t, 4, 25));
     vec![one, two, three, four, five, six, seven]
+}
+
+/// 128 pairs of containers, each pair under a policy of its own that lets it be with itself alone, all of one user: but for one
+/// container, which carries the system label, nothing is found.
+pub fn quiet() -> Registry {
+    let (mut c, mut q) = (0.., 0..);
+    let container = || {
+        let i: u16 = c.next().unwrap();
+        [(1, 1), (2, if i == 0 { 1 } else { 2 }), (3, 1 + i / 2), (4, 1 + i % 7), (5, 1 + i % 5)].to_vec()
+    };
+    Registry::new("quiet", container, || vec![(3, 1 + q.next().unwrap() / 2)])
 }
 
 /// 16 labels for which probing begins at one place, on containers and in parts: nine of them find a place, and parts match by both

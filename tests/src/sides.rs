@@ -1,6 +1,7 @@
 //! The same call on each side, and the comparison of a side with the reference: a list of calls that fails is made shorter and
 //! shown.
 
+use crate::answers::Tally;
 use crate::baseline::{self, Algorithms, ByLabels, ByTrials};
 use crate::c;
 use crate::reference::{self, Call, Left};
@@ -12,23 +13,24 @@ pub type Side = fn(&[u64], &Call) -> Left;
 /// The call of a module that has a function for each; some of them have a parameter for the algorithms.
 macro_rules! made {
     ($side:ident $(, $by:ty)?; $memory:expr, $call:expr) => {{
-        let (mut memory, mut list, mut bytes) = ($memory.to_vec(), $call.list(), $call.bytes());
+        let (mut memory, mut lent) = ($memory.to_vec(), $call.lent());
         let m = &mut memory[..];
         let answer = match $call {
-            Call::Open(block) => $side::open$(::<$by>)?(m, block),
+            Call::Open(block) => $side::open(m, block),
             Call::Admit(block) => $side::admit$(::<$by>)?(m, block),
             Call::RemoveContainer(i) => $side::remove_container(m, *i),
             Call::RemovePolicy(i) => $side::remove_policy$(::<$by>)?(m, *i),
             Call::Reaches(a, b) => $side::reaches(m, *a, *b),
             Call::CarriesUser(i, value) => $side::carries_user(m, *i, *value),
             Call::NextFinding(after) => $side::next_finding(m, *after),
-            Call::Findings(after, _) => $side::findings(m, *after, &mut list),
+            Call::Findings(after, _) => $side::findings(m, *after, &mut lent.list),
             Call::Counts => $side::counts(m),
             Call::Rebuild => $side::rebuild$(::<$by>)?(m),
             Call::Audit => $side::audit$(::<$by>)?(m),
-            Call::Write(_) => $side::write(m, &mut bytes),
+            Call::Write(_) => $side::write(m, &mut lent.bytes),
+            Call::AdmitBatch(blocks, ..) => $side::admit_batch$(::<$by>)?(m, blocks, &mut lent.numbers, &mut lent.tally),
         };
-        Left { memory, list, bytes, answer }
+        Left { memory, lent, answer }
     }};
 }
 
@@ -57,9 +59,13 @@ fn left(sides: &[Side], memory: &[u64], call: &Call) -> Result<Left, String> {
         if found.answer != expected.answer {
             return Err(format!("side {k}: answer {:#x}, expected {:#x}", found.answer, expected.answer));
         }
+        let (lent, right) = (&found.lent, &expected.lent);
+        let counts = |t: Tally| [t.taken, t.refused];
         let how = difference("word", &found.memory, &expected.memory)
-            .or_else(|| difference("number", &found.list, &expected.list))
-            .or_else(|| difference("byte", &found.bytes, &expected.bytes));
+            .or_else(|| difference("number", &lent.list, &right.list))
+            .or_else(|| difference("byte", &lent.bytes, &right.bytes))
+            .or_else(|| difference("number of the batch", &lent.numbers, &right.numbers))
+            .or_else(|| difference("count of the tally", &counts(lent.tally), &counts(right.tally)));
         if let Some(how) = how {
             return Err(format!("side {k}: {how}"));
         }
@@ -107,6 +113,10 @@ fn show(call: &Call) -> String {
         Call::Admit(b) => format!("  admit {}", front(b)),
         Call::Findings(after, list) => format!("  findings after {after:?}, a list of {}", list.len()),
         Call::Write(bytes) => format!("  write into {} bytes", bytes.len()),
+        Call::AdmitBatch(bytes, numbers, tally) => {
+            let blocks: Vec<String> = bytes.chunks(512).map(|b| format!("\n    {}", front(b))).collect();
+            format!("  admit a batch, a list of {}, {tally:?}{}", numbers.len(), blocks.concat())
+        }
         other => format!("  {other:?}"),
     }
 }

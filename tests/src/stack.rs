@@ -1,7 +1,7 @@
 //! The stack that a call takes: words below the stack pointer are painted, and after the call the lowest that has another colour
 //! is looked for.
 
-use crate::answers::outcome;
+use crate::answers::{outcome, Tally};
 use crate::c;
 use crate::registries::{self, settings, Registry, FILE};
 use std::arch::asm;
@@ -55,6 +55,8 @@ pub fn calls(r: &Registry) -> Vec<(&'static str, usize)> {
     };
     let no_container = without(&|m| c::remove_container(m, c as u64));
     let no_policy = without(&|m| c::remove_policy(m, q as u64));
+    let (half, blocks) = (r.memory_of(128, 64), r.batch(128, 64));
+    let (mut numbers, mut tally) = (vec![0; 256], Tally::default());
     let next = |kind| accepted(&mut |m| c::next_finding(m, (kind, 0, 0)));
     let mut listed = |kind| accepted(&mut |m| c::findings(m, (kind, 0, 0), &mut list));
     vec![
@@ -72,6 +74,7 @@ pub fn calls(r: &Registry) -> Vec<(&'static str, usize)> {
         ("bihokura_rebuild", accepted(&mut |m| c::rebuild(m))),
         ("bihokura_audit", accepted(&mut |m| c::audit(m))),
         ("bihokura_write", accepted(&mut |m| c::write(m, &mut file))),
+        ("bihokura_admit_batch", with(&half, None, &mut |m| c::admit_batch(m, &blocks, &mut numbers, &mut tally))),
     ]
 }
 

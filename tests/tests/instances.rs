@@ -1,7 +1,7 @@
 //! What the program `instances` writes, worked out by the separately written register: document 01's instances without a star,
 //! each refusal number among them. A line is the instance's number, the refusal and the answer.
 
-use bihokura_tests::answers::{counts, outcome};
+use bihokura_tests::answers::{counts, outcome, Tally};
 use bihokura_tests::bytes::{container, policy, sealed, settings, spoiled, Pair, EGRESS, INGRESS};
 use bihokura_tests::layout::WORDS;
 use bihokura_tests::reference::{step, Call};
@@ -28,6 +28,17 @@ impl Run {
 
     fn write(&mut self, case: u64, refusal: u64, value: u64) {
         writeln!(self.written, "{case} {refusal} {value}").unwrap();
+    }
+
+    /// With the two numbers of a list and the tally as the call leaves them, of which it is lent the first n numbers.
+    fn batch(&mut self, case: u64, bytes: Vec<u8>, n: usize) {
+        let mut numbers = [9; 2];
+        let call = Call::AdmitBatch(bytes, numbers[..n].to_vec(), Tally { taken: 2, refused: u64::MAX });
+        let lent = step(&self.memory, &call).lent;
+        numbers[..n].copy_from_slice(&lent.numbers);
+        self.ask(case, call);
+        self.write(case, u64::from(numbers[0]), u64::from(numbers[1]));
+        self.write(case, lent.tally.taken, lent.tally.refused);
     }
 
     fn open(&mut self, case: u64, block: Vec<u8>) {
@@ -167,6 +178,16 @@ fn writing(r: &mut Run) {
     r.ask(85, room(1025));
 }
 
+fn batching(r: &mut Run) {
+    let two = container(&run_of(2, 1));
+    r.batch(86, two[..511].to_vec(), 2);
+    r.batch(87, two.clone(), 1);
+    r.batch(88, vec![], 0);
+    r.batch(89, two.clone(), 2);
+    r.batch(90, spoiled(two), 2);
+    r.batch(91, policy(INGRESS, &[], &[(2, 1)]), 2);
+}
+
 /// Against the stored output of the program. `INSTANCES=write` writes that file anew.
 #[test]
 fn stored_output_is_the_reference_s() {
@@ -178,6 +199,7 @@ fn stored_output_is_the_reference_s() {
     freeing(&mut r);
     filling(&mut r);
     writing(&mut r);
+    batching(&mut r);
     let file = concat!(env!("CARGO_MANIFEST_DIR"), "/../crates/instances/stdout");
     if std::env::var("INSTANCES").is_ok_and(|v| v == "write") {
         std::fs::write(file, &r.written).unwrap();

@@ -1,39 +1,60 @@
 //! The list of calls of `Listed.antt`, whose answers antt computes through the reference model's step (`listed-answers`), run
 //! through the exported calls.
 
-use bihokura_tests::answers::{code, counted, refused, Finding, START};
+use bihokura_tests::answers::{code, counted, refused, Finding, Tally, START};
 use bihokura_tests::bytes::{container, policy, sealed, settings, Pair, EGRESS, INGRESS};
 use bihokura_tests::layout::WORDS;
-use bihokura_tests::reference::{step, Call};
+use bihokura_tests::reference::{step, Call, Lent};
 use bihokura_tests::sheet::printed;
 use bihokura_tests::sides::{on_c, Side};
 
 static ZEROS: [u64; WORDS + 1] = [0; WORDS + 1];
 
-/// A call with its answer, what it puts into its list and what it writes into its buffer. It is lent so many words: our memory, or
-/// zeros of another size.
-struct Line(usize, Call, u64, Vec<u64>, Vec<u8>);
+/// A call with its answer and what it leaves of what else it is lent. It is lent so many words: our memory, or zeros of another size.
+struct Line(usize, Call, u64, Lent);
 
 /// What stands in a list or a buffer before it is lent.
 const BEFORE: u8 = 77;
 
+fn line(size: usize, call: Call, answer: u64) -> Line {
+    let kept = call.lent();
+    Line(size, call, answer, kept)
+}
+
+/// A batch with a list of so many numbers and a tally, what it puts into the list, and the tally left.
+fn batch(blocks: &[Vec<u8>], room: usize, from: (u64, u64), put: &[u16], to: (u64, u64)) -> Line {
+    let tally = |(taken, refused)| Tally { taken, refused };
+    let mut line = line(WORDS, Call::AdmitBatch(blocks.concat(), vec![u16::from(BEFORE); room], tally(from)), 0);
+    line.3.numbers[..put.len()].copy_from_slice(put);
+    line.3.tally = tally(to);
+    line
+}
+
 fn listed() -> Vec<Line> {
-    let ours = |call, answer| Line(WORDS, call, answer, vec![], vec![]);
-    let other = |n, call| Line(n, call, refused(1), vec![], vec![]);
+    let ours = |call, answer| line(WORDS, call, answer);
+    let other = |n, call| line(n, call, refused(1));
     let found = |after, next| ours(Call::NextFinding(after), code(next));
     let none = |after| ours(Call::NextFinding(after), 0);
     let listing = |after, room| Call::Findings(after, vec![u64::from(BEFORE); room]);
-    let puts = |call, put: &[Finding]| Line(WORDS, call, put.len() as u64, put.iter().copied().map(code).collect(), vec![]);
+    let puts = |call, put: &[Finding]| {
+        let mut line = ours(call, put.len() as u64);
+        line.3.list.iter_mut().zip(put).for_each(|(to, finding)| *to = code(*finding));
+        line
+    };
     let writing = |room| Call::Write(vec![BEFORE; room]);
     // of the printed blocks, those of these numbers
     let writes = |call, numbers: &[usize]| {
         let file: Vec<u8> = numbers.iter().flat_map(|n| printed()[512 * n..512 * n + 512].to_vec()).collect();
-        Line(WORDS, call, file.len() as u64, vec![], file)
+        let mut line = ours(call, file.len() as u64);
+        line.3.bytes[..file.len()].copy_from_slice(&file);
+        line
     };
     let con = |labels: &[Pair]| Call::Admit(container(labels));
     let pol = |d, s: &[Pair], a: &[Pair]| Call::Admit(policy(d, s, a));
     let mut unchecked = vec![0; 512];
     unchecked[0] = 67;
+    let lent = |blocks: &[Vec<u8>], room| Call::AdmitBatch(blocks.concat(), vec![u16::from(BEFORE); room], Tally::default());
+    let three = [container(&[(3, 2)]), unchecked.clone(), policy(EGRESS, &[(3, 2)], &[])];
     let mut list = vec![
         ours(Call::Counts, counted(0, 0, 0)),
         none(START),
@@ -91,6 +112,13 @@ fn listed() -> Vec<Line> {
         found((5, 65535, 65535), (7, 1, 1)),
         ours(Call::Rebuild, 0),
         ours(Call::Counts, counted(4, 2, 13)),
+        ours(lent(&[vec![0; 511]], 0), refused(14)),
+        ours(lent(&three, 5), refused(13)),
+        batch(&[], 0, (3, 4), &[], (3, 4)),
+        other(WORDS - 1, lent(&three, 6)),
+        batch(&three, 7, (u64::MAX - 1, 8), &[0, 4, 4, 0, 0, 2], (u64::MAX, 9)),
+        ours(Call::Counts, counted(5, 3, 17)),
+        ours(Call::Audit, 1),
         ours(Call::Open(settings(3, 0, 0)), 0),
         ours(Call::Counts, counted(0, 0, 0)),
     ];
@@ -112,13 +140,10 @@ fn run(call: Side) {
     let opened = call(&memory, &Call::Open(settings(1, 2, 9)));
     assert_eq!(opened.answer, 0);
     let mut memory = opened.memory;
-    for (i, Line(size, asked, answer, put, file)) in listed().into_iter().enumerate() {
+    for (i, Line(size, asked, answer, lent)) in listed().into_iter().enumerate() {
         let left = call(if size == WORDS { &memory } else { &ZEROS[..size] }, &asked);
         assert_eq!(left.answer, answer, "call {i}: {asked:?}");
-        let (mut list, mut bytes) = (asked.list(), asked.bytes());
-        list[..put.len()].copy_from_slice(&put);
-        bytes[..file.len()].copy_from_slice(&file);
-        assert!(left.list == list && left.bytes == bytes, "call {i}: {asked:?}");
+        assert!(left.lent == lent, "call {i}: {asked:?}");
         if size == WORDS {
             memory = left.memory;
         } else {

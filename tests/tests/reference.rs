@@ -28,7 +28,7 @@ fn the_printed_example() {
     let (m, answers) = run(&calls);
     assert_eq!(answers, [0, 0, 1, 2, 3, 0, 1, 2, counted(4, 3, 11), 1]);
     let written = step(&m, &Call::Write(vec![7; 4100]));
-    assert!(written.answer == 4096 && written.bytes == [printed(), vec![7; 4]].concat());
+    assert!(written.answer == 4096 && written.lent.bytes == [printed(), vec![7; 4]].concat());
     let found = Register::decode(&m).unwrap().findings();
     let expected = [(3, 0, 2), (3, 0, 3), (3, 2, 0), (3, 2, 1), (3, 2, 3), (3, 3, 0), (3, 3, 2), (4, 3, 1), (5, 1, 0), (7, 2, 1)];
     assert_eq!(found, expected);

@@ -20,7 +20,7 @@ fn check_between(r: &mut Random, m: &[u64], n: usize) -> u64 {
     let answer = c::write(m, &mut all[front.len()..front.len() + n]);
     let expected = step(m, &Call::Write(lent));
     assert_eq!(answer, expected.answer, "into {n} bytes");
-    assert!(all == [front, expected.bytes, back].concat(), "into {n} bytes between others");
+    assert!(all == [front, expected.lent.bytes, back].concat(), "into {n} bytes between others");
     answer
 }
 

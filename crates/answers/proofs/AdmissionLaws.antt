@@ -1,17 +1,22 @@
--- What the search for a free slot says of an admission: the table is full and the call is refused 12, or the entry comes to that slot.
+-- What the test of its block and the search for a free slot say of an admission: it is refused as its block is; or the table is full and
+-- the call is refused 12; or the entry comes to that slot.
 use mathlib.Core.Path.{_≡_, refl, sym, ap, _∙_}
 use mathlib.Core.Bool.{true}
 use mathlib.Core.List.{List}
 use mathlib.Core.Option.{Option, none, some}
 use Prim.Native.Nat.{ℕ}
-use Rattle.block.specs.Entry.{Container, Policy, container, policy}
-use Rattle.block.specs.Refusal.{accepted}
-use Rattle.block.specs.Reader.{readEntry}
+use Rattle.block.specs.declared.Tested.{Tested}
+use Rattle.block.specs.Entry.{Container, Policy, Settings, container, policy}
+use Rattle.block.specs.Refusal.{firstRefusal, accepted}
+use Rattle.block.specs.Reader.{entryChecks, readEntry}
+use Rattle.block.specs.Reading.{settingsOf}
 use Rattle.model.specs.declared.ContainerSlot.{ContainerSlot}
 use Rattle.model.specs.declared.PolicySlot.{PolicySlot}
 use Rattle.model.specs.Table.{lowestFree}
 use Rattle.model.specs.Calls.{change, admit, refusal, containerAt, policyAt}
 use Rattle.model.specs.Registry.{changeContainer, changePolicy}
+use Rattle.store.specs.Layout.{wordAt}
+use Rattle.formed.specs.Words.{settingsIn}
 use Rattle.formed.specs.Registry.{modelIn, registryIn, image, wellFormed}
 use Rattle.entries.specs.declared.FreeContainer.the-variants as containers
 use Rattle.entries.specs.declared.FreePolicy.the-variants as policies
@@ -20,23 +25,39 @@ use Rattle.steps.specs.MemoryStep.{memoryStep}
 use Rattle.steps.proofs.Outcomes.{admit-container-full, admit-container-done, admit-policy-full, admit-policy-done}
 use Rattle.answers.specs.Admission.{containerAdmittedTo, policyAdmittedTo, containerAdmitted, policyAdmitted}
 
+settings-here : (m : List ℕ) → settingsOf (record { «user_key» = wordAt m 0; «system_key» = wordAt m 1; «system_value» = wordAt m 2 }) ≡ modelIn m .settings
+unfolding settingsOf modelIn settingsIn
+settings-here m = refl
+
+-- the block is tested under the settings that the memory says
+pub tested-here : (m b : List ℕ) {t : Tested} → t ≡ firstRefusal (entryChecks (settingsOf (record { «user_key» = wordAt m 0; «system_key» = wordAt m 1; «system_value» = wordAt m 2 })) b)
+    → t ≡ firstRefusal (entryChecks (modelIn m .settings) b)
+tested-here m b e = e ∙ ap (λ (s : Settings). firstRefusal (entryChecks s b)) (settings-here m)
+
 module _ (m : List ℕ) where
-  -- no slot is free: 12
-  pub container-full : (x : Container) → freeContainer (lowestFree (modelIn m .containers)) ≡ containers.Full → containerAdmitted m x ≡ (m, refusal 12)
-  unfolding containerAdmitted
-  container-full x e = ap (containerAdmittedTo m x) (none-of (lowestFree (modelIn m .containers)) e)
+  -- the search gives none
+  pub no-container-slot : freeContainer (lowestFree (modelIn m .containers)) ≡ containers.Full → lowestFree (modelIn m .containers) ≡ none
+  no-container-slot e = none-of (lowestFree (modelIn m .containers)) e
     where
       none-of : (o : Option ℕ) → freeContainer o ≡ containers.Full → o ≡ none
       none-of none e = refl
       none-of (some c) e = cc
 
-  pub policy-full : (p : Policy) → freePolicy (lowestFree (modelIn m .policies)) ≡ policies.Full → policyAdmitted m p ≡ (m, refusal 12)
-  unfolding policyAdmitted
-  policy-full p e = ap (policyAdmittedTo m p) (none-of (lowestFree (modelIn m .policies)) e)
+  pub no-policy-slot : freePolicy (lowestFree (modelIn m .policies)) ≡ policies.Full → lowestFree (modelIn m .policies) ≡ none
+  no-policy-slot e = none-of (lowestFree (modelIn m .policies)) e
     where
       none-of : (o : Option ℕ) → freePolicy o ≡ policies.Full → o ≡ none
       none-of none e = refl
       none-of (some q) e = cc
+
+  -- no slot is free: 12
+  pub container-full : (x : Container) → freeContainer (lowestFree (modelIn m .containers)) ≡ containers.Full → containerAdmitted m x ≡ (m, refusal 12)
+  unfolding containerAdmitted
+  container-full x e = ap (containerAdmittedTo m x) (no-container-slot e)
+
+  pub policy-full : (p : Policy) → freePolicy (lowestFree (modelIn m .policies)) ≡ policies.Full → policyAdmitted m p ≡ (m, refusal 12)
+  unfolding policyAdmitted
+  policy-full p e = ap (policyAdmittedTo m p) (no-policy-slot e)
 
   -- the slot that the search gives
   pub container-slot-of : (s : ContainerSlot) → freeContainer (lowestFree (modelIn m .containers)) ≡ containers.At s → lowestFree (modelIn m .containers) ≡ some (s .0)

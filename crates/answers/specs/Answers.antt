@@ -2,7 +2,8 @@
 use mathlib.Core.List.{List}
 use Prim.Native.Nat.{ℕ}
 use lib.ListN.{take}
-use Rattle.model.specs.Calls.{Answer, refusal, done, containerAt, policyAt, says, found, noFinding, findingsPut, counted, filePut}
+use Rattle.model.specs.Calls.{Answer, refusal, done, containerAt, policyAt, says, found, noFinding, findingsPut, counted, filePut, batchPut, pairsOf}
+use Rattle.model.specs.declared.Tally.{Tally}
 use Rattle.findings.specs.Steps.{cursorPlace}
 use Rattle.answers.specs.declared.Outcome.{Outcome}
 use Rattle.answers.specs.declared.Outcome.the-variants as outcome
@@ -63,3 +64,8 @@ fileAnswer (file.Bytes k) e = filePut (take k e)
 abbrev pub countBytes : FilePut → ℕ
 countBytes (file.Refused n) = 0
 countBytes (file.Bytes k) = k
+
+-- the numbers put, two for each block, and the tally left
+abbrev pub batchedAnswer : Outcome → List ℕ → Tally → Answer
+batchedAnswer (outcome.Refused n) l t = refusal n
+batchedAnswer outcome.Done l t = batchPut (pairsOf l) t

@@ -3,6 +3,7 @@ use findings::Cursor;
 use model::ContainerSlot;
 use model::Finding;
 use model::PolicySlot;
+use model::Tally;
 
 // Of open, of both removals and of rebuild.
 pub enum Outcome {
@@ -46,4 +47,10 @@ pub enum Counted {
 pub enum FilePut {
     Refused(u8),
     Bytes(usize),
+}
+
+// Whether a batch was taken, and the tally after it.
+pub struct Batched {
+    pub outcome: Outcome,
+    pub tally: Tally,
 }

@@ -24,3 +24,5 @@ pub const FREE_SLOT: u8 = 11;
 pub const TABLE_FULL: u8 = 12;
 
 pub const BUFFER_LENGTH: u8 = 13;
+
+pub const BATCH_LENGTH: u8 = 14;

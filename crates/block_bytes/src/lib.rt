@@ -3,9 +3,10 @@ ghost use mathlib.Core.Path.{_≡_};
 ghost use Prim.Native.Nat.{_+_, _≤_, _<_};
 ghost use lib.Dec.{eqb};
 ghost use lib.ListN.{length};
-ghost use Rattle.block.specs.Bytes.{numberAt, checksum};
+ghost use Rattle.block.specs.Bytes.{numberAt, weighted, checksum};
 ghost use Rattle.block.specs.Fault.{clear};
 ghost use Rattle.block.specs.Reader.{within, zeroFault};
+ghost use Rattle.block_bytes.specs.Used.{UsedEnd};
 
 pub fn wide(x: u8) -> u64
     ensures { λ r. ⌜ (r ≡ x) × (r ≤ 255) ⌝ }
@@ -27,18 +28,18 @@ pub fn number_at(block: &[u8], at: usize) -> u64
     wide(block[at]) * 256 + wide(block[at + 1])
 }
 
-// The checksum that bytes 0 to 509 call for.
-pub fn checksum(block: &[u8]) -> u64
-    requires { ⌜ length (now block) ≡ 512 ⌝ }
-    ensures { λ r. ⌜ r ≡ checksum (now (block .entry)) ⌝ }
+// The sum over the first `end` bytes of byte times (its position + 1).
+fn weighted_sum(block: &[u8], end: usize) -> u64
+    requires { ⌜ (length (now block) ≡ 512) × (end ≤ 510) ⌝ }
+    ensures { λ r. ⌜ r ≡ weighted (now (block .entry)) end ⌝ }
 {
     let mut sum: u64 = 0;
     let mut i: usize = 0;
-    while i < 510 {
+    while i < end {
         sum += wide(block[i]) * (i as u64 + 1);
         i += 1;
     }
-    sum % 65521
+    sum
 }
 
 // The bytes from `from` on and before `to`, joined bit by bit: 0 exactly if each of them is. A loop that always runs to
@@ -54,6 +55,35 @@ pub fn joined(block: &[u8], from: usize, to: usize) -> u8
         at += 1;
     }
     bits
+}
+
+// Where what can be in use of the bytes before 510 ends: behind the fields where all is zero behind them, and else at 510.
+pub fn used_end(block: &[u8]) -> usize
+    requires { ⌜ length (now block) ≡ 512 ⌝ }
+    ensures { λ r. ⌜ UsedEnd (now (block .entry)) r ⌝ }
+{
+    if joined(block, 36, 510) == 0 {
+        return 36;
+    }
+    510
+}
+
+// The checksum that bytes 0 to 509 call for. Zeros add nothing to it. The ends are written out, so that each sum becomes vector code.
+pub fn checksum_to(block: &[u8], end: usize) -> u64
+    requires { ⌜ (length (now block) ≡ 512) × UsedEnd (now block) end ⌝ }
+    ensures { λ r. ⌜ r ≡ checksum (now (block .entry)) ⌝ }
+{
+    if end == 36 {
+        return weighted_sum(block, 36) % 65521;
+    }
+    weighted_sum(block, 510) % 65521
+}
+
+pub fn checksum(block: &[u8]) -> u64
+    requires { ⌜ length (now block) ≡ 512 ⌝ }
+    ensures { λ r. ⌜ r ≡ checksum (now (block .entry)) ⌝ }
+{
+    checksum_to(block, used_end(block))
 }
 
 // low <= x <= high

@@ -9,8 +9,9 @@ use Rattle.block.specs.Reader.{entrySaid}
 use Rattle.model.specs.declared.Finding.{Finding}
 use Rattle.model.specs.Findings.{Place, placeOf, moved, findingCode}
 use Rattle.model.specs.Calls.{askReaches, askUser, nextFinding, listFindings, counts, audit, write}
-use Rattle.model.specs.Calls.{Call, openWith, change, admit, removeContainer, removePolicy, rebuild, ask}
-use Rattle.model.specs.Calls.{Answer, refusal, done, containerAt, policyAt, says, found, noFinding, findingsPut, counted, filePut, written}
+use Rattle.model.specs.Calls.{Call, openWith, change, admit, admitBatch, removeContainer, removePolicy, rebuild, ask}
+use Rattle.model.specs.Calls.{Answer, refusal, done, containerAt, policyAt, says, found, noFinding, findingsPut, counted, filePut, batchPut, pairsOf, written}
+use Rattle.model.specs.Batch.{tallied}
 use Rattle.model.proofs.Lists.{All}
 use Rattle.findings.proofs.Walk.{SmallPlace}
 use Rattle.codes.specs.Codes.{refusalCode, countsCode, truthCode, codeOf}
@@ -44,6 +45,7 @@ slotOf (policy p) n = policyAt n
 abbrev pub acceptedAs : Call → List ℕ → ℕ → Answer
 acceptedAs (openWith b) w n = done
 acceptedAs (change (admit b)) w n = slotOf (entrySaid b) n
+acceptedAs (change (admitBatch bs k t)) w n = batchPut (pairsOf w) (tallied t (pairsOf w))
 acceptedAs (change (removeContainer c)) w n = done
 acceptedAs (change (removePolicy q)) w n = done
 acceptedAs (change rebuild) w n = done

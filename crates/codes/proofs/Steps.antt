@@ -1,71 +1,40 @@
 -- By call: the number that a step answers says the answer itself.
-use mathlib.Core.Path.{_≡_, refl, ap, subst, _∙_}
-use mathlib.Core.Bool.{Bool, true, and-eq-true-iff}
+use mathlib.Core.Path.{_≡_, refl, ap}
+use mathlib.Core.Bool.{Bool}
 use mathlib.Core.List.{List, [], _∷_, map}
 use mathlib.Core.Option.{Option, none, some}
-use Prim.Native.Nat.{ℕ, zero, suc, _<_}
+use Prim.Native.Nat.{ℕ, zero, suc}
 use native.Mathlib.Omega.{arith}
-use lib.Dec.{ltb}
 use lib.ListN.{length}
-use borrow.Author.Tests.{ltb-true}
-use Rattle.block.specs.declared.Fault.{Fault}
-use Rattle.block.specs.declared.Fault.the-variants.{Nowhere, At}
-use Rattle.block.specs.declared.Refusal.{Refusal}
 use Rattle.block.specs.declared.Tested.{Tested}
 use Rattle.block.specs.declared.Tested.the-variants.{Passed, Refused}
-use Rattle.block.specs.Refusal.{Check, refuse, firstRefusal}
+use Rattle.block.specs.Refusal.{firstRefusal}
+use Rattle.block.specs.Cut.{blocksOf}
 use Rattle.block.specs.Entry.{Policy, Entry, container, policy}
 use Rattle.block.specs.Reader.{entrySaid}
 use Rattle.model.specs.declared.Finding.{Finding}
-use Rattle.model.specs.Table.{all, at, lowestFree}
+use Rattle.model.specs.declared.Tally.{Tally}
+use Rattle.model.specs.Table.{at, lowestFree}
 use Rattle.model.specs.Findings.{Place, containersOf, policiesOf, findings, placeOf, walk, moved, findingCode, pairs}
 use Rattle.model.specs.Calls.{askReaches, askUser, nextFinding, listFindings, counts, audit, write}
-use Rattle.model.specs.Calls.{Call, openWith, change, admit, removeContainer, removePolicy, rebuild, ask}
-use Rattle.model.specs.Calls.{Answer, refusal, done, containerAt, policyAt, says, noFinding, found, findingsPut, counted, filePut, foundAnswer, findingsAnswer, written}
+use Rattle.model.specs.Calls.{Call, openWith, change, admit, admitBatch, removeContainer, removePolicy, rebuild, ask}
+use Rattle.model.specs.Calls.{Answer, refusal, done, containerAt, policyAt, says, noFinding, found, findingsPut, counted, filePut, batchPut, foundAnswer, findingsAnswer, numbersOf, written, run}
+use Rattle.model.specs.Batch.{pairOf, tallied, batchAnswer}
 use Rattle.model.specs.File.{fileOf}
-use Rattle.model.specs.RegistryStep.{admitContainer, admitPolicy, admitEntry, takePolicy, answerTo, acceptedStep}
+use Rattle.model.specs.RegistryStep.{admitContainer, admitPolicy, admitEntry, admitBlock, takePolicy, answerTo, acceptedStep}
 use Rattle.model.proofs.Lists.{All}
+use Rattle.model.proofs.Batch.{pairs-back}
 use Rattle.model.proofs.Findings.{FromKind, all-listed, findings-from}
 use Rattle.model.proofs.Next.{is-next}
 use Rattle.formed.specs.Registry.{modelIn, bitsIn, registryIn}
 use Rattle.findings.proofs.NextFinding.{nextIn, next-sized}
 use Rattle.steps.specs.MemoryStep.{memoryRefusals, memoryOutcome, memoryStep}
-use Rattle.steps.specs.NumbersMet.{numbersMet}
-use Rattle.steps.proofs.NumbersMet.{numbers-met}
+use Rattle.steps.proofs.NumbersMet.{refusal-positive}
 use Rattle.codes.specs.Codes.{codeOf}
 use Rattle.steps.proofs.Outcomes.{container-slot-below, policy-slot-below}
 use Rattle.codes.proofs.Few.{containers-few, policies-few, pairs-fit}
 use Rattle.codes.proofs.Decoded.{findingOf, countedOf, foundOf, truthOf, slotOf, acceptedAs, decoded, Decodes, decodes-refusal, decodes-accepted, InRange}
-use Rattle.codes.proofs.Decoded.{top-done, top-none, top-container, top-policy, top-truth, truth-back, top-found, none-back, found-back, top-put, findings-back, top-counted, counted-back, top-file}
-
--- ---- a refusal's number is not 0
-
-numbers-positive : (call : Call) → all (ltb 0) (numbersMet call) ≡ true
-numbers-positive (openWith b) = refl
-numbers-positive (change (admit b)) = refl
-numbers-positive (change (removeContainer c)) = refl
-numbers-positive (change (removePolicy q)) = refl
-numbers-positive (change rebuild) = refl
-numbers-positive (ask (askReaches a b)) = refl
-numbers-positive (ask (askUser c v)) = refl
-numbers-positive (ask (nextFinding c)) = refl
-numbers-positive (ask (listFindings c n)) = refl
-numbers-positive (ask counts) = refl
-numbers-positive (ask audit) = refl
-numbers-positive (ask (write n)) = refl
-
-first-positive : (cs : List Check) → all (ltb 0) (map (λ c. c .number) cs) ≡ true → (f : Refusal) → firstRefusal cs ≡ Refused f → 0 < f .number
-first-positive [] t f e = let z : _≡_ {A = ℕ} 0 1 = cc in absurd (omega arith)
-first-positive (c ∷ cs) t f e = pick (c .fault) e (first-positive cs (h .1) f)
-  where
-    h : (ltb 0 (c .number) ≡ true) × (all (ltb 0) (map (λ c. c .number) cs) ≡ true)
-    h = and-eq-true-iff (ltb 0 (c .number)) (all (ltb 0) (map (λ c. c .number) cs)) .0 t
-
-    pick : (x : Fault) → refuse (c .number) x (firstRefusal cs) ≡ Refused f → (firstRefusal cs ≡ Refused f → 0 < f .number) → 0 < f .number
-    pick Nowhere e ih = ih e
-    pick (At p) e ih =
-        let s : record { number = c .number; position = p } ≡ f = cc in
-        subst (λ r. 0 < r .number) s (ltb-true 0 (c .number) (h .0))
+use Rattle.codes.proofs.Decoded.{top-done, top-none, top-container, top-policy, top-truth, truth-back, top-found, none-back, found-back, top-put, findings-back, top-counted, counted-back, top-file, top-zero}
 
 -- ---- the findings that a memory gives
 
@@ -92,6 +61,14 @@ decodes-truth t = decodes-accepted _ (says t) (top-truth t) (ap says (truth-back
 
 decodes-done : Decodes done done
 decodes-done = decodes-accepted done done top-done refl
+
+-- a batch of these answers
+decodes-batch : (t : Tally) (given : List Answer)
+    → Decodes (acceptedAs (change (admitBatch [] 0 t)) (written (batchAnswer t given)) (codeOf (batchAnswer t given))) (batchAnswer t given)
+unfolding batchAnswer
+decodes-batch t given =
+    let ps = map pairOf given in
+    decodes-accepted _ (batchPut ps (tallied t ps)) (top-zero (numbersOf ps)) (ap (λ (l : List (ℕ × ℕ)). batchPut l (tallied t l)) (pairs-back ps))
 
 module _ (m : List ℕ) where
   decodes-entry : (x : Entry) → Decodes (slotOf x (codeOf (admitEntry (registryIn m) x .1))) (admitEntry (registryIn m) x .1)
@@ -136,6 +113,7 @@ module _ (m : List ℕ) where
   unfolding acceptedStep answerTo registryIn
   decodes-step (openWith b) = decodes-done
   decodes-step (change (admit b)) = decodes-entry (entrySaid b)
+  decodes-step (change (admitBatch bs n t)) = decodes-batch t (run admitBlock (registryIn m) (blocksOf bs) .1)
   decodes-step (change (removeContainer c)) = decodes-done
   decodes-step (change (removePolicy q)) = decodes-taken q (at (modelIn m .policies) q)
   decodes-step (change rebuild) = decodes-done
@@ -155,4 +133,4 @@ module _ (m : List ℕ) where
       pick Passed e = decodes-step call
       pick (Refused f) e =
           decodes-refusal (acceptedAs call [] (codeOf (refusal (f .number)))) (f .number)
-          (first-positive (memoryRefusals m call) (ap (all (ltb 0)) (numbers-met m call) ∙ numbers-positive call) f e)
+          (refusal-positive m call f e)

@@ -4,7 +4,7 @@ use mathlib.Core.List.{List}
 use Prim.Native.Nat.{ℕ, _+_, _*_}
 use lib.ListN.{length}
 use Rattle.model.specs.Findings.{findingCode}
-use Rattle.model.specs.Calls.{Call, Answer, refusal, done, containerAt, policyAt, says, found, noFinding, findingsPut, counted, filePut}
+use Rattle.model.specs.Calls.{Call, Answer, refusal, done, containerAt, policyAt, says, found, noFinding, findingsPut, counted, filePut, batchPut}
 use Rattle.steps.specs.MemoryStep.{memoryStep}
 
 -- the refusal's number in the top byte
@@ -30,6 +30,7 @@ codeOf noFinding = 0
 codeOf (findingsPut l c) = length l
 codeOf (counted c q n) = countsCode c q n
 codeOf (filePut w) = length w
+codeOf (batchPut ps t) = 0
 
 -- what a call leaves of the memory, and the number it answers
 unfoldable pub codedStep : List ℕ → Call → List ℕ × ℕ

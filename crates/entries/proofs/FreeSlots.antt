@@ -5,6 +5,7 @@ use mathlib.Core.List.{List, _∷_}
 use mathlib.Core.Option.{Option, none, some}
 use Prim.Native.Nat.{ℕ, zero, suc, _+_, _*_, _-_, _<_, _≤_}
 use native.Mathlib.Nat.{add-zero, zero-add, mul-le-mul-left}
+use native.Mathlib.Decide.{decLt}
 use native.Mathlib.Omega.{arith}
 use lib.Dec.{eqb}
 use lib.ListN.{length}
@@ -12,13 +13,15 @@ use borrow.Author.Tests.{eq-eqb, ne-eqb}
 use Rattle.bitrow.specs.declared.Found.{Found}
 use Rattle.bitrow.specs.declared.Found.the-variants.{At, Nothing}
 use Rattle.bitrow.specs.Set.{firstOf}
-use Rattle.model.specs.Table.{isFree, next, lowestFree}
+use Rattle.model.specs.Table.{Table, isFree, free, next, lowestFree}
 use Rattle.model.specs.Model.{containerSlots, policySlots}
+use Rattle.model.proofs.Tables.{free-at}
 use Rattle.store.specs.Layout.{wordAt, containersStart, containerWords, policiesStart, policyWords, containerStart}
 use Rattle.store.specs.Contents.{tab}
+use Rattle.store.proofs.Image.{length-tab, getD-tab}
 use Rattle.formed.specs.Words.{partIn, containerIn, policyAt, policyIn}
 use Rattle.formed.specs.Registry.{modelIn}
-use Rattle.entries.specs.Entries.{SlotsWithin, freeIn}
+use Rattle.entries.specs.Entries.{SlotsWithin, freeIn, NoneFree}
 
 -- ---- one step of the search among the slots from i up to before n
 
@@ -36,6 +39,21 @@ module _ (s : ℕ → Bool) (i n : ℕ) where
   pub first-end : n ≤ i → firstOf s i (n - i) ≡ Nothing
   unfolding firstOf
   first-end h = let e : n - i ≡ 0 = omega arith in ap (firstOf s i) e
+
+-- the search may begin past slots that are not free
+first-from : (s : ℕ → Bool) (n from : ℕ) → ((i : ℕ) → i < from → i < n → s i ≡ false) → firstOf s from (n - from) ≡ firstOf s 0 n
+first-from s n zero h = let e : n - 0 ≡ n = omega arith in ap (firstOf s 0) e
+first-from s n (suc i) h =
+    let e : suc i ≡ i + 1 = omega arith in
+    ap (λ j. firstOf s j (n - j)) e ∙ sym (go (decLt i n)) ∙ first-from s n i (λ j a b. h j (omega arith) b)
+  where
+    go : Dec (i < n) → firstOf s i (n - i) ≡ firstOf s (i + 1) (n - (i + 1))
+    go (yes l) = first-miss s i n l (h i (omega arith) l)
+    go (no l) = first-end s i n (omega arith) ∙ sym (first-end s (i + 1) n (omega arith))
+
+-- no slot is below the first
+pub none-free-yet : {A : Type 0} (t : Table A) → NoneFree t 0
+none-free-yet t = record { below = λ i h. absurd (omega arith) }
 
 module _ (m : List ℕ) (start words i : ℕ) where
   pub zero-is-free : wordAt m (start + words * i) ≡ 0 → freeIn m start words i ≡ true
@@ -86,36 +104,46 @@ module _ {A : Type 0} (m : List ℕ) (start words n : ℕ) (f : ℕ → A) where
       go true = refl
       go false = refl
 
-  searched : firstOf (freeIn m start words) 0 n ≡ foundAfter 0 (lowestFree (tab n slot))
-  searched = search-rest (freeIn m start words) n 0 slot free-slot
+  table-free : (i : ℕ) → i < n → free (tab n slot) i ≡ freeIn m start words i
+  table-free i h =
+      let l : i < length (tab n slot) = omega (arith, length-tab n slot) in
+      free-at (tab n slot) i l ∙ ap isFree (getD-tab n slot i none h) ∙ free-slot i ∙ ap (freeIn m start words) (zero-add i)
 
-  searched-at : (i : ℕ) → firstOf (freeIn m start words) 0 n ≡ At i → lowestFree (tab n slot) ≡ some i
-  searched-at i e = go (lowestFree (tab n slot)) (sym searched ∙ e)
-    where
-      go : (o : Option ℕ) → foundAfter 0 o ≡ At i → o ≡ some i
-      go none q = let z : _≡_ {A = ℕ} 0 1 = cc in absurd (omega arith)
-      go (some j) q = let z : 0 + j ≡ i = cc in let y : j ≡ i = omega arith in ap some y
+  module _ (from : ℕ) (taken : NoneFree (tab n slot) from) where
+    searched : firstOf (freeIn m start words) from (n - from) ≡ foundAfter 0 (lowestFree (tab n slot))
+    searched =
+        first-from (freeIn m start words) n from (λ i h l. sym (table-free i l) ∙ taken .below i h)
+        ∙ search-rest (freeIn m start words) n 0 slot free-slot
 
-  searched-none : firstOf (freeIn m start words) 0 n ≡ Nothing → lowestFree (tab n slot) ≡ none
-  searched-none e = go (lowestFree (tab n slot)) (sym searched ∙ e)
-    where
-      go : (o : Option ℕ) → foundAfter 0 o ≡ Nothing → o ≡ none
-      go none q = refl
-      go (some j) q = let z : _≡_ {A = ℕ} 0 1 = cc in absurd (omega arith)
+    searched-at : (i : ℕ) → firstOf (freeIn m start words) from (n - from) ≡ At i → lowestFree (tab n slot) ≡ some i
+    searched-at i e = go (lowestFree (tab n slot)) (sym searched ∙ e)
+      where
+        go : (o : Option ℕ) → foundAfter 0 o ≡ At i → o ≡ some i
+        go none q = let z : _≡_ {A = ℕ} 0 1 = cc in absurd (omega arith)
+        go (some j) q = let z : 0 + j ≡ i = cc in let y : j ≡ i = omega arith in ap some y
 
-module _ (m : List ℕ) where
-  pub container-found : (i : ℕ) → firstOf (freeIn m containersStart containerWords) 0 containerSlots ≡ At i → lowestFree (modelIn m .containers) ≡ some i
-  unfolding modelIn containerIn
-  container-found = searched-at m containersStart containerWords containerSlots (λ i. partIn m (containerStart i))
+    searched-none : firstOf (freeIn m start words) from (n - from) ≡ Nothing → lowestFree (tab n slot) ≡ none
+    searched-none e = go (lowestFree (tab n slot)) (sym searched ∙ e)
+      where
+        go : (o : Option ℕ) → foundAfter 0 o ≡ Nothing → o ≡ none
+        go none q = refl
+        go (some j) q = let z : _≡_ {A = ℕ} 0 1 = cc in absurd (omega arith)
 
-  pub containers-full : firstOf (freeIn m containersStart containerWords) 0 containerSlots ≡ Nothing → lowestFree (modelIn m .containers) ≡ none
-  unfolding modelIn containerIn
-  containers-full = searched-none m containersStart containerWords containerSlots (λ i. partIn m (containerStart i))
+module _ (m : List ℕ) (from : ℕ) where
+  module _ (taken : NoneFree (modelIn m .containers) from) where
+    pub container-found : (i : ℕ) → firstOf (freeIn m containersStart containerWords) from (containerSlots - from) ≡ At i → lowestFree (modelIn m .containers) ≡ some i
+    unfolding modelIn containerIn
+    container-found = searched-at m containersStart containerWords containerSlots (λ i. partIn m (containerStart i)) from taken
 
-  pub policy-found : (i : ℕ) → firstOf (freeIn m policiesStart policyWords) 0 policySlots ≡ At i → lowestFree (modelIn m .policies) ≡ some i
-  unfolding modelIn policyIn
-  policy-found = searched-at m policiesStart policyWords policySlots (policyAt m)
+    pub containers-full : firstOf (freeIn m containersStart containerWords) from (containerSlots - from) ≡ Nothing → lowestFree (modelIn m .containers) ≡ none
+    unfolding modelIn containerIn
+    containers-full = searched-none m containersStart containerWords containerSlots (λ i. partIn m (containerStart i)) from taken
 
-  pub policies-full : firstOf (freeIn m policiesStart policyWords) 0 policySlots ≡ Nothing → lowestFree (modelIn m .policies) ≡ none
-  unfolding modelIn policyIn
-  policies-full = searched-none m policiesStart policyWords policySlots (policyAt m)
+  module _ (taken : NoneFree (modelIn m .policies) from) where
+    pub policy-found : (i : ℕ) → firstOf (freeIn m policiesStart policyWords) from (policySlots - from) ≡ At i → lowestFree (modelIn m .policies) ≡ some i
+    unfolding modelIn policyIn
+    policy-found = searched-at m policiesStart policyWords policySlots (policyAt m) from taken
+
+    pub policies-full : firstOf (freeIn m policiesStart policyWords) from (policySlots - from) ≡ Nothing → lowestFree (modelIn m .policies) ≡ none
+    unfolding modelIn policyIn
+    policies-full = searched-none m policiesStart policyWords policySlots (policyAt m) from taken

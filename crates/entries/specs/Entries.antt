@@ -1,6 +1,6 @@
 -- What the readers of entries give.
 use mathlib.Core.Path.{_≡_}
-use mathlib.Core.Bool.{Bool, cond}
+use mathlib.Core.Bool.{Bool, false, cond}
 use mathlib.Core.List.{List, [], _∷_}
 use mathlib.Core.Option.{Option, none, some}
 use Prim.Native.Nat.{ℕ, _+_, _*_, _≤_, _<_}
@@ -8,6 +8,7 @@ use lib.Dec.{eqb}
 use lib.ListN.{length}
 use Rattle.block.specs.Entry.{Label}
 use Rattle.bitrow.specs.Set.{meet}
+use Rattle.model.specs.Table.{Table, free}
 use Rattle.model.specs.Model.{containerSlots, policySlots}
 use Rattle.model.specs.Rules.{matches}
 use Rattle.store.specs.Layout.{wordAt, containersStart, containerWords, selectOffset, allowOffset, containerStart, policyStart}
@@ -79,6 +80,11 @@ pub record SlotsWithin (m : List ℕ) (start n slots : ℕ) : Type 0 where
 -- the free ones among them
 unfoldable pub freeIn : List ℕ → ℕ → ℕ → ℕ → Bool
 freeIn m start n i = eqb (wordAt m (start + n * i)) 0
+
+module _ {A : Type 0} where
+  -- no slot below n is free
+  pub record NoneFree (t : Table A) (n : ℕ) : Type 0 where
+    pub below : (i : ℕ) → i < n → free t i ≡ false
 
 -- the answer of the search in each table
 abbrev pub freeContainer : Option ℕ → FreeContainer

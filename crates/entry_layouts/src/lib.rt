@@ -3,6 +3,7 @@ ghost use mathlib.Core.Path.{_≡_};
 ghost use lib.ListN.{length};
 ghost use Rattle.block.specs.Refusal.{firstRefusal};
 ghost use Rattle.block.specs.Reader.{containerLayout, policyLayout};
+ghost use Rattle.block_bytes.specs.Used.{UsedEnd};
 ghost use Rattle.layouts.specs.Steps.{layoutChecks};
 use block::Fault;
 use block::Tested;
@@ -10,20 +11,21 @@ use layouts::Body;
 use layouts::Run;
 use layouts::Span;
 
-pub fn container_test(block: &[u8]) -> Tested
-    requires { ⌜ length (now block) ≡ 512 ⌝ }
+// The rest of the unused bytes is looked at up to `end` only: behind it all are zero.
+pub fn container_test(block: &[u8], end: usize) -> Tested
+    requires { ⌜ (length (now block) ≡ 512) × UsedEnd (now block) end ⌝ }
     ensures { λ r. ⌜ r ≡ firstRefusal (layoutChecks (now (block .entry)) (containerLayout (now (block .entry)))) ⌝ }
 {
     let limits = faults::unless(block[1] <= 8, 1);
     let count = block_bytes::size(block[1]);
-    let end = 4 + 4 * count;
+    let from = 4 + 4 * count;
     let first = Run { start: 4, count };
     let second = Run {
-        start: end,
+        start: from,
         count: 0,
     };
     let head = Span { from: 2, to: 4 };
-    let rest = Span { from: end, to: 510 };
+    let rest = Span { from, to: end };
     layouts::layout_test(
         block,
         limits,
@@ -47,8 +49,8 @@ fn policy_limits(block: &[u8]) -> Fault
     faults::or_else(direction, faults::or_else(select, allow))
 }
 
-pub fn policy_test(block: &[u8]) -> Tested
-    requires { ⌜ length (now block) ≡ 512 ⌝ }
+pub fn policy_test(block: &[u8], end: usize) -> Tested
+    requires { ⌜ (length (now block) ≡ 512) × UsedEnd (now block) end ⌝ }
     ensures { λ r. ⌜ r ≡ firstRefusal (layoutChecks (now (block .entry)) (policyLayout (now (block .entry)))) ⌝ }
 {
     let limits = policy_limits(block);
@@ -65,7 +67,7 @@ pub fn policy_test(block: &[u8]) -> Tested
     let head = Span { from: 4, to: 4 };
     let rest = Span {
         from: 4 + 4 * (select + allow),
-        to: 510,
+        to: end,
     };
     layouts::layout_test(
         block,

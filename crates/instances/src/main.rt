@@ -3,6 +3,8 @@
 ghost use Prim.Native.Nat.{_≤_};
 ghost use lib.ListN.{length};
 use libc::STDOUT_FILENO;
+use model::Tally;
+use registry_c::CodedBatch;
 use samples::Shape;
 
 fn line(case: u64, refusal: u64, value: u64) {
@@ -214,6 +216,74 @@ fn written(memory: &mut [u64], case: u64) -> u64 {
     }
 }
 
+fn batch_case(case: u64) -> Shape {
+    match case {
+        90 => samples::spoiled(samples::container(2, 1)),
+        91 => samples::policy(1, 0, 1, 2),
+        _ => samples::container(2, 1),
+    }
+}
+
+// So many bytes of the block: one too few, none, and all.
+fn batch_bytes(case: u64) -> usize
+    ensures { λ r. ⌜ r ≤ 512 ⌝ }
+{
+    match case {
+        86 => 511,
+        88 => 0,
+        _ => 512,
+    }
+}
+
+// So many numbers of the list: one too few, none, and two.
+fn batch_numbers(case: u64) -> usize
+    ensures { λ r. ⌜ r ≤ 2 ⌝ }
+{
+    match case {
+        87 => 1,
+        88 => 0,
+        _ => 2,
+    }
+}
+
+// The first bytes of a block as a batch, with the first numbers of a list.
+fn batch_of(
+    memory: &mut [u64],
+    block: &[u8],
+    bytes: usize,
+    numbers: &mut [u16],
+    n: usize,
+) -> CodedBatch
+    requires { ⌜ (bytes ≤ length (now block)) × (n ≤ length (now numbers)) ⌝ }
+{
+    let tally = Tally {
+        taken: 2,
+        refused: u64::MAX,
+    };
+    registry_c::batch_coded(memory, &block[0..bytes], &mut numbers[0..n], tally)
+}
+
+fn wide(x: u16) -> u64 {
+    x as u64
+}
+
+// Batches of a block: a line for the answer, one for the two numbers in the list, and one for the tally.
+fn show_batch(memory: &mut [u64], case: u64) {
+    let block = samples::sealed(batch_case(case));
+    let mut numbers = [9u16; 2];
+    let done = batch_of(
+        memory,
+        &block,
+        batch_bytes(case),
+        &mut numbers,
+        batch_numbers(case),
+    );
+    show(case, done.number);
+    line(case, wide(numbers[0]), wide(numbers[1]));
+    let tally = done.tally;
+    line(case, tally.taken, tally.refused);
+}
+
 fn answer(memory: &mut [u64], case: u64) -> u64 {
     if case < 17 {
         opened(memory, case)
@@ -237,13 +307,14 @@ fn run(memory: &mut [u64], case: u64) {
         50 | 60 | 63 | 75 | 78 => show_counts(case, registry_c::bihokura_counts(memory)),
         65 => repeat(memory, samples::container(2, 1), 255),
         71 => repeat(memory, samples::policy(1, 0, 1, 2), 127),
+        86 | 87 | 88 | 89 | 90 | 91 => show_batch(memory, case),
         _ => show(case, answer(memory, case)),
     }
 }
 
 fn run_all(memory: &mut [u64]) {
     let mut case = 1;
-    while case < 86 {
+    while case < 92 {
         run(memory, case);
         case += 1;
     }

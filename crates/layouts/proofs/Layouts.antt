@@ -1,12 +1,13 @@
 -- Two runs and two ranges, of which one of each may be empty, say what the two layouts do; and what limits that hold tell.
-use mathlib.Core.Path.{_≡_, refl, ap, _∙_}
+use mathlib.Core.Path.{_≡_, refl, sym, ap, _∙_}
 use mathlib.Core.List.{List, [], _∷_, _++_}
 use Prim.Native.Nat.{ℕ, _+_, _*_, _≤_}
-use native.Mathlib.Nat.{le-refl}
+use native.Mathlib.Nat.{le-trans}
+use native.Mathlib.Omega.{arith}
 use borrow.Author.Tests.{leb-true}
 use lib.Dec.{leb}
 use Rattle.block.specs.declared.Fault.{Fault}
-use Rattle.block.specs.declared.Fault.the-variants.{Nowhere}
+use Rattle.block.specs.declared.Fault.the-variants.{Nowhere, At}
 use Rattle.block.specs.declared.Tested.{Tested}
 use Rattle.block.specs.declared.Tested.the-variants.{Passed}
 use Rattle.layouts.specs.declared.Body.{Body}
@@ -15,8 +16,9 @@ use Rattle.block.specs.Fault.{unless, orElse, firstIn}
 use Rattle.block.specs.Refusal.{Check, check, refuse, firstRefusal}
 use Rattle.block.specs.Reader.{Run, Range, within, rangeFault, orderFault, zeroFault, rangeFaults, orderFaults, unusedFault, containerLayout, policyLayout}
 use Rattle.layouts.specs.Steps.{runsOf, unusedOf, bodyChecks, layoutChecks}
-use Rattle.block.proofs.Faults.{faults-done}
 use Rattle.block.proofs.Checks.{unless-none, orElse-none, within-bounds}
+use Rattle.block_bytes.specs.Used.{UsedEnd}
+use Rattle.block_bytes.proofs.Zeros.{no-byte, used-zeros}
 
 -- ---- an empty run and an empty range find no fault
 
@@ -34,10 +36,6 @@ no-label-order : (b : List ℕ) (p : ℕ) → orderFault b p 0 ≡ Nowhere
 unfolding orderFault
 no-label-order b p = refl
 
-no-byte : (b : List ℕ) (p : ℕ) → zeroFault b p p ≡ Nowhere
-unfolding zeroFault
-no-byte b p = faults-done _ p p (le-refl p)
-
 empty-run : (b : List ℕ) (rs qs : List Run) (p : ℕ) (us : List Range) → bodyChecks b (rs ++ (record { start = p; count = 0 } ∷ qs)) us ≡ bodyChecks b (rs ++ qs) us
 unfolding bodyChecks
 empty-run b rs qs p us =
@@ -50,52 +48,6 @@ empty-range : (b : List ℕ) (rs : List Run) (us vs : List Range) (p : ℕ) → 
 unfolding bodyChecks
 empty-range b rs us vs p =
     ap (λ (f : Fault). check 7 (rangeFaults b rs) ∷ check 8 (orderFaults b rs) ∷ check 9 f ∷ []) (firstIn-without _ us _ vs (no-byte b p))
-
--- ---- the code's layouts say what the definitions' do
-
-abbrev containerBody : ℕ → Body
-containerBody n =
-    record {
-      first = record { start = 4; count = n };
-      second = record { start = 4 + 4 * n; count = 0 };
-      head = record { from = 2; to = 4 };
-      rest = record { from = 4 + 4 * n; to = 510 };
-    }
-
-abbrev policyBody : ℕ → ℕ → Body
-policyBody m n =
-    record {
-      first = record { start = 4; count = m };
-      second = record { start = 4 + 4 * m; count = n };
-      head = record { from = 4; to = 4 };
-      rest = record { from = 4 + 4 * (m + n); to = 510 };
-    }
-
--- what layout_test answers of a body
-abbrev answered : List ℕ → Fault → Body → Tested
-answered b f y = firstRefusal (check 6 f ∷ bodyChecks b (runsOf y) (unusedOf y))
-
--- the refusals nest as the checks do
-pub body-answered : (b : List ℕ) (f range order unused : Fault) (y : Body) (s t r : Tested) → f ≡ Nowhere → range ≡ rangeFaults b (runsOf y)
-    → order ≡ orderFaults b (runsOf y) → unused ≡ unusedFault b (unusedOf y) → s ≡ refuse 9 unused Passed → t ≡ refuse 8 order s → r ≡ refuse 7 range t
-    → r ≡ answered b f y
-unfolding bodyChecks
-body-answered b f range order unused y s t r l h k u p q e = simp l (cc)
-
-pub container-layout : (b : List ℕ) (f : Fault) (n : ℕ) → f ≡ unless (leb (byteAt b 1) 8) 1 → n ≡ byteAt b 1 → answered b f (containerBody n) ≡ firstRefusal (layoutChecks b (containerLayout b))
-unfolding layoutChecks containerLayout runsOf unusedOf
-container-layout b f n e h =
-    ap (λ (g : Fault). answered b g (containerBody n)) e
-    ∙ ap (λ (k : ℕ). answered b (unless (leb (byteAt b 1) 8) 1) (containerBody k)) h
-    ∙ ap (λ (cs : List Check). firstRefusal (check 6 (unless (leb (byteAt b 1) 8) 1) ∷ cs)) (empty-run b (record { start = 4; count = byteAt b 1 } ∷ []) [] (4 + 4 * byteAt b 1) _)
-
-pub policy-layout : (b : List ℕ) (f : Fault) (m n : ℕ) → f ≡ policyLayout b .limits → m ≡ byteAt b 2 → n ≡ byteAt b 3 → answered b f (policyBody m n) ≡ firstRefusal (layoutChecks b (policyLayout b))
-unfolding layoutChecks policyLayout runsOf unusedOf
-policy-layout b f m n e h k =
-    ap (λ (g : Fault). answered b g (policyBody m n)) e
-    ∙ ap (λ (i : ℕ). answered b (policyLayout b .limits) (policyBody i n)) h
-    ∙ ap (λ (j : ℕ). answered b (policyLayout b .limits) (policyBody (byteAt b 2) j)) k
-    ∙ ap (λ (cs : List Check). firstRefusal (check 6 (policyLayout b .limits) ∷ cs)) (empty-range b (policyLayout b .runs) [] (policyLayout b .unused) 4)
 
 -- ---- what limits that hold tell
 
@@ -121,3 +73,61 @@ policy-counts b e =
       select = leb-true (byteAt b 2) 4 (unless-none _ 2 .0 (t .0));
       allow = leb-true (byteAt b 3) 4 (unless-none _ 3 .0 (t .1));
     }
+
+-- ---- the code's layouts say what the definitions' do
+
+-- the rest is looked at up to e
+abbrev containerBody : ℕ → ℕ → Body
+containerBody n e =
+    record {
+      first = record { start = 4; count = n };
+      second = record { start = 4 + 4 * n; count = 0 };
+      head = record { from = 2; to = 4 };
+      rest = record { from = 4 + 4 * n; to = e };
+    }
+
+abbrev policyBody : ℕ → ℕ → ℕ → Body
+policyBody m n e =
+    record {
+      first = record { start = 4; count = m };
+      second = record { start = 4 + 4 * m; count = n };
+      head = record { from = 4; to = 4 };
+      rest = record { from = 4 + 4 * (m + n); to = e };
+    }
+
+-- what layout_test answers of a body
+abbrev answered : List ℕ → Fault → Body → Tested
+answered b f y = firstRefusal (check 6 f ∷ bodyChecks b (runsOf y) (unusedOf y))
+
+-- the refusals nest as the checks do
+pub body-answered : (b : List ℕ) (f range order unused : Fault) (y : Body) (s t r : Tested) → f ≡ Nowhere → range ≡ rangeFaults b (runsOf y)
+    → order ≡ orderFaults b (runsOf y) → unused ≡ unusedFault b (unusedOf y) → s ≡ refuse 9 unused Passed → t ≡ refuse 8 order s → r ≡ refuse 7 range t
+    → r ≡ answered b f y
+unfolding bodyChecks
+body-answered b f range order unused y s t r l h k u p q e = simp l (cc)
+
+-- y, with its rest looked at up to e
+abbrev restTo : ℕ → Body → Body
+restTo e y = record { first = y .first; second = y .second; head = y .head; rest = record { from = y .rest .from; to = e } }
+
+rest-to : (b : List ℕ) (e : ℕ) → UsedEnd b e → (f : Fault) (y : Body) → (f ≡ Nowhere → y .rest .from ≤ 36) → answered b f (restTo e y) ≡ answered b f (restTo 510 y)
+unfolding bodyChecks runsOf unusedOf
+rest-to b e u Nowhere y l = rw (used-zeros b e (y .rest .from) u (le-trans (l refl) (u .low)))
+rest-to b e u (At p) y l = refl
+
+pub container-layout : (b : List ℕ) (f : Fault) (n e : ℕ) → UsedEnd b e → f ≡ unless (leb (byteAt b 1) 8) 1 → n ≡ byteAt b 1 → answered b f (containerBody n e) ≡ firstRefusal (layoutChecks b (containerLayout b))
+unfolding layoutChecks containerLayout runsOf unusedOf
+container-layout b f n e u q h =
+    rest-to b e u f (containerBody n e) (λ z. omega (arith, container-count b (sym q ∙ z)))
+    ∙ ap (λ (g : Fault). answered b g (containerBody n 510)) q
+    ∙ ap (λ (k : ℕ). answered b (unless (leb (byteAt b 1) 8) 1) (containerBody k 510)) h
+    ∙ ap (λ (cs : List Check). firstRefusal (check 6 (unless (leb (byteAt b 1) 8) 1) ∷ cs)) (empty-run b (record { start = 4; count = byteAt b 1 } ∷ []) [] (4 + 4 * byteAt b 1) _)
+
+pub policy-layout : (b : List ℕ) (f : Fault) (m n e : ℕ) → UsedEnd b e → f ≡ policyLayout b .limits → m ≡ byteAt b 2 → n ≡ byteAt b 3 → answered b f (policyBody m n e) ≡ firstRefusal (layoutChecks b (policyLayout b))
+unfolding layoutChecks policyLayout runsOf unusedOf
+policy-layout b f m n e u q h k =
+    rest-to b e u f (policyBody m n e) (λ z. let l = policy-counts b (sym q ∙ z) in omega arith)
+    ∙ ap (λ (g : Fault). answered b g (policyBody m n 510)) q
+    ∙ ap (λ (i : ℕ). answered b (policyLayout b .limits) (policyBody i n 510)) h
+    ∙ ap (λ (j : ℕ). answered b (policyLayout b .limits) (policyBody (byteAt b 2) j 510)) k
+    ∙ ap (λ (cs : List Check). firstRefusal (check 6 (policyLayout b .limits) ∷ cs)) (empty-range b (policyLayout b .runs) [] (policyLayout b .unused) 4)

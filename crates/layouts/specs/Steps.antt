@@ -1,11 +1,20 @@
--- How the code holds a layout, and what its test goes through.
+-- What the test of a block's frame answers, how the code holds a layout, and what its test goes through.
+use mathlib.Core.Path.{_≡_}
 use mathlib.Core.List.{List, [], _∷_}
 use Prim.Native.Nat.{ℕ, _+_, _*_, _≤_}
 use Rattle.layouts.specs.declared.Run.{Run as CodeRun}
 use Rattle.layouts.specs.declared.Span.{Span}
 use Rattle.layouts.specs.declared.Body.{Body}
-use Rattle.block.specs.Refusal.{Check, check}
-use Rattle.block.specs.Reader.{Run, Range, Layout, rangeFaults, orderFaults, unusedFault}
+use Rattle.layouts.specs.declared.Framed.{Framed}
+use Rattle.block.specs.declared.Tested.the-variants.{Passed}
+use Rattle.block.specs.Refusal.{Check, check, firstRefusal}
+use Rattle.block.specs.Reader.{Run, Range, Layout, rangeFaults, orderFaults, unusedFault, frame}
+use Rattle.block_bytes.specs.Used.{UsedEnd}
+
+-- 3 and 4, and where the used bytes of a block that meets neither end
+pub record Frames (b : List ℕ) (r : Framed) : Type 0 where
+  pub tested : r .tested ≡ firstRefusal (frame b)
+  pub used : r .tested ≡ Passed → UsedEnd b (r .end)
 
 -- ---- the code holds a layout as two runs of labels and two ranges of unused bytes, of which any may be empty
 

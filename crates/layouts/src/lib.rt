@@ -5,13 +5,44 @@ ghost use Prim.Native.Nat.{_≤_};
 ghost use lib.ListN.{length};
 ghost use Rattle.block.specs.Refusal.{check, firstRefusal};
 ghost use Rattle.block.specs.Reader.{rangeFaults, orderFaults, unusedFault, frame};
-ghost use Rattle.layouts.specs.Steps.{runOf, rangeOf, runsOf, unusedOf, RunWithin, BodyWithin, bodyChecks};
+ghost use Rattle.layouts.specs.Steps.{runOf, rangeOf, runsOf, unusedOf, RunWithin, BodyWithin, bodyChecks, Frames};
 use block::Fault;
 use block::Refusal;
 use block::Tested;
 use block::numbers;
 
-// Refusals 3 and 4, of any block.
+// Whether a block meets refusal 3 or 4, and, if neither, where its used bytes end.
+pub struct Framed {
+    pub tested: Tested,
+    pub end: usize,
+}
+
+pub fn frame(block: &[u8]) -> Framed
+    ensures { λ r. ⌜ Frames (now (block .entry)) r ⌝ }
+{
+    if block.len() != 512 {
+        let tested = Tested::Refused(Refusal {
+            number: numbers::BLOCK_LENGTH,
+            position: 0,
+        });
+        return Framed { tested, end: 0 };
+    }
+    let end = block_bytes::used_end(block);
+    if block_bytes::number_at(block, 510) != block_bytes::checksum_to(block, end) {
+        let tested = Tested::Refused(Refusal {
+            number: numbers::CHECKSUM,
+            position: 510,
+        });
+        return Framed { tested, end };
+    }
+    Framed {
+        tested: Tested::Passed,
+        end,
+    }
+}
+
+// Refusals 3 and 4, of any block. It does not call `frame`: so that has one caller and is compiled into it, without a call for each
+// block of a batch.
 pub fn frame_test(block: &[u8]) -> Tested
     ensures { λ r. ⌜ r ≡ firstRefusal (frame (now (block .entry))) ⌝ }
 {

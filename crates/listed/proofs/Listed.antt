@@ -1,25 +1,28 @@
 -- The list of calls, computed through the model's step; and so answered on every memory.
 use mathlib.Core.Path.{_≡_, refl, sym, ap, ap₂, _∙_}
-use mathlib.Core.Bool.{true, false, cond}
-use mathlib.Core.List.{List, [], _∷_, _++_, map}
+use mathlib.Core.Bool.{Bool, true, false, _&&_, cond}
+use mathlib.Core.List.{List, [], _∷_, _++_, map, flatten}
 use mathlib.Core.Option.{none, some}
-use Prim.Native.Nat.{ℕ, _+_, _*_, _≤_}
+use Prim.Native.Nat.{ℕ, suc, _+_, _*_, _%_, _≤_}
 use native.Mathlib.Omega.{arith}
 use lib.Dec.{eqb, leb}
-use borrow.Author.Tests.{eq-eqb}
-use lib.ListN.{length, replicate, drop}
+use borrow.Author.Tests.{eq-eqb, le-leb}
+use lib.ListN.{length, replicate, drop, length-append, length-replicate}
 use Rattle.block.specs.Entry.{Label, Direction, ingress, egress, Settings, Entry, container, policy}
 use Rattle.block.specs.declared.Refusal.{Refusal}
 use Rattle.block.specs.declared.Tested.the-variants.{Refused}
 use Rattle.block.specs.Refusal.{Check, firstRefusal, Read, refused, accepted, readUnless}
+use Rattle.block.specs.Cut.{blocksOf}
 use Rattle.block.specs.Bytes
 use Rattle.block.specs.Reader
 use Rattle.block.specs.Reader.{entrySaid, settingsSaid, frame, settingsChecks, entryChecks, readSettings, readEntry}
 use Rattle.block.specs.Written
 use Rattle.block.specs.Written.{sealed, blockOf, settingsBlock, validEntry, validSettings}
+use Rattle.block.proofs.Cut.{blocks-end, blocks-first}
 use Rattle.block.proofs.Sealed.{sealed-length, sealed-checked}
 use Rattle.block.proofs.Accepted.{settings-accepted}
-use Rattle.block.proofs.Written.{written-read, settings-read}
+use Rattle.block.proofs.Written.{written-length, written-read, settings-read}
+use Rattle.model.specs.declared.Tally.{Tally}
 use Rattle.model.specs.Rules
 use Rattle.model.specs.Model
 use Rattle.model.specs.Model.{Model, empty, matrixBit}
@@ -27,12 +30,14 @@ use Rattle.model.specs.Findings
 use Rattle.model.specs.Findings.{containersOf, policiesOf, pairsIn}
 use Rattle.stars.specs.Stars.{label, policyTo}
 use Rattle.model.specs.Calls.{askReaches, askUser, nextFinding, listFindings, counts, audit, write}
-use Rattle.model.specs.Calls.{Call, openWith, change, admit, removeContainer, removePolicy, rebuild, ask}
-use Rattle.model.specs.Calls.{Answer, refusal, says, counted, filePut}
+use Rattle.model.specs.Calls.{Call, openWith, change, admit, admitBatch, removeContainer, removePolicy, rebuild, ask}
+use Rattle.model.specs.Calls.{Answer, refusal, says, counted, filePut, run}
+use Rattle.model.specs.Batch
+use Rattle.model.specs.Batch.{batchOutcome}
 use Rattle.model.specs.File
 use Rattle.model.specs.File.{fileOf}
 use Rattle.model.specs.ModelStep
-use Rattle.model.specs.ModelStep.{opening, admitting, modelAnswer, modelStep}
+use Rattle.model.specs.ModelStep.{opening, admitting, modelAnswer, admittingBlock, admittingBatch, modelStep}
 use Rattle.model.proofs.Pairs.{pairs-computed}
 use Rattle.store.specs.Layout.{memoryWords}
 use Rattle.formed.specs.Registry.{ValidEntries}
@@ -40,13 +45,20 @@ use Rattle.files.proofs.FileLaws.{file-size}
 use Rattle.steps.specs.MemoryStep.{memoryStep}
 use Rattle.steps.specs.Refinement.{Lending, ours, other, Seen, onMemory, onModel, Refinement}
 use Rattle.listed.specs.Listed
-use Rattle.listed.specs.Listed.{callsOf, seenOf, listed, printedSettings, otherSettings, noLabels}
+use Rattle.listed.specs.Listed.{callsOf, seenOf, listed, printedSettings, otherSettings, noLabels, tallyOf}
 use Rattle.listed.specs.Listed.{shortBlock, uncheckedBlock, kindBlock, nineBlock, valueBlock, orderBlock, unusedBlock, keyBlock}
 use Rattle.steps.proofs.Outcomes.{open-done}
 use Rattle.steps.proofs.Valid.{valid-empty, valid-step}
 use Rattle.steps.proofs.Refinement.{refinement}
 
 -- ---- a call, and what its block is read as
+
+-- a block of 512 bytes
+record Block : Type 0 where
+  bytes : List ℕ
+  size : length bytes ≡ 512
+  read : Read Entry
+  reads : (s : Settings) → readEntry s bytes ≡ read
 
 data Known : Type 0 where
   call : Call → Known
@@ -56,7 +68,12 @@ data Known : Type 0 where
   writing : ℕ → Known
   entry : (b : List ℕ) (o : Read Entry) → ((s : Settings) → readEntry s b ≡ o) → Known
   settings : (b : List ℕ) (o : Read Settings) → readSettings b ≡ o → Known
+  -- blocks at once
+  batch : (l : List Block) → length l ≤ 128 → ℕ → Tally → Known
   elsewhere : (x : List ℕ) → (length x ≡ memoryWords → ⊥) → Call → Known
+
+abbrev bytesOf : List Block → List (List ℕ)
+bytesOf l = map (λ b. b .bytes) l
 
 abbrev lending : Known → Lending
 lending (call c) = ours c
@@ -64,6 +81,7 @@ lending counting = ours (ask counts)
 lending (writing n) = ours (ask (write n))
 lending (entry b o e) = ours (change (admit b))
 lending (settings b o e) = ours (openWith b)
+lending (batch l h n t) = ours (change (admitBatch (flatten (bytesOf l)) n t))
 lending (elsewhere x e c) = other x e c
 
 abbrev countedStanding : Model → ℕ → Answer
@@ -72,12 +90,17 @@ countedStanding m n = counted (length (containersOf m)) (length (policiesOf m)) 
 abbrev writtenInto : Model → ℕ → ℕ → Answer
 writtenInto m n size = cond (leb size n) (filePut (fileOf m)) (refusal 13)
 
+-- 14 is passed
+abbrev batchInto : Model → List Block → ℕ → Tally → Model × Answer
+batchInto m l n t = cond (leb (2 * length l) n) (batchOutcome t (run admitting m (map (λ b. b .read) l))) (m, refusal 13)
+
 knownStep : Model → Known → Model × Seen
 knownStep m (call c) = let r = modelStep m c in (r .0, record { answer = r .1; other = none })
 knownStep m counting = (m, record { answer = countedStanding m (pairsIn (matrixBit m) (containersOf m) (containersOf m)); other = none })
 knownStep m (writing n) = (m, record { answer = writtenInto m n (512 * (1 + (length (containersOf m) + length (policiesOf m)))); other = none })
 knownStep m (entry b o e) = let r = admitting m o in (r .0, record { answer = r .1; other = none })
 knownStep m (settings b o e) = let r = opening m o in (r .0, record { answer = r .1; other = none })
+knownStep m (batch l h n t) = let r = batchInto m l n t in (r .0, record { answer = r .1; other = none })
 knownStep m (elsewhere x e c) = (m, record { answer = refusal 1; other = some x })
 
 onKnown : Model → List Known → List Seen
@@ -88,8 +111,40 @@ onKnown m (k ∷ l) = let r = knownStep m k in r .1 ∷ onKnown (r .0) l
 abbrev answered : Answer → List Seen → List Seen
 answered a l = record { answer = a; other = none } ∷ l
 
+-- blocks joined, and cut again
+flat-blocks : (l : List Block) → blocksOf (flatten (bytesOf l)) ≡ bytesOf l
+unfolding flatten
+flat-blocks [] = blocks-end
+flat-blocks (b ∷ l) = blocks-first (b .bytes) (flatten (bytesOf l)) (b .size) ∙ ap (λ (r : List (List ℕ)). b .bytes ∷ r) (flat-blocks l)
+
+flat-length : (l : List Block) → length (flatten (bytesOf l)) ≡ 512 * length l
+unfolding flatten
+flat-length [] = refl
+flat-length (b ∷ l) = let h = flat-length l in omega (arith, length-append (b .bytes) (flatten (bytesOf l)), b .size, h)
+
+bytes-count : (l : List Block) → length (bytesOf l) ≡ length l
+bytes-count [] = refl
+bytes-count (b ∷ l) = ap suc (bytes-count l)
+
+run-reads : (m : Model) (l : List Block) → run admittingBlock m (bytesOf l) ≡ run admitting m (map (λ b. b .read) l)
+unfolding admittingBlock
+run-reads m [] = refl
+run-reads m (b ∷ l) = rw (b .reads (m .settings), run-reads (admitting m (b .read) .0) l)
+
+batch-known : (m : Model) (l : List Block) → length l ≤ 128 → (n : ℕ) (t : Tally) → admittingBatch m (flatten (bytesOf l)) n t ≡ batchInto m l n t
+unfolding admittingBatch
+batch-known m l h n t =
+    let bs = flatten (bytesOf l) in
+    let k = flat-length l in
+    let few : leb (length bs) 65536 ≡ true = le-leb (length bs) 65536 (omega (arith, k, h)) in
+    let whole : eqb (length bs % 512) 0 ≡ true = eq-eqb (length bs % 512) 0 (omega (arith, k)) in
+    let count : 2 * length (blocksOf bs) ≡ 2 * length l = ap (λ (j : ℕ). 2 * j) (ap length (flat-blocks l) ∙ bytes-count l) in
+    let taken : run admittingBlock m (blocksOf bs) ≡ run admitting m (map (λ b. b .read) l) = ap (run admittingBlock m) (flat-blocks l) ∙ run-reads m l in
+    ap₂ (λ (u v : Bool). cond (u && v) (cond (leb (2 * length (blocksOf bs)) n) (batchOutcome t (run admittingBlock m (blocksOf bs))) (m, refusal 13)) (m, refusal 14)) few whole
+    ∙ ap₂ (λ (j : ℕ) (r : Model × List Answer). cond (leb j n) (batchOutcome t r) (m, refusal 13)) count taken
+
 known-run : (m : Model) → ValidEntries m → (l : List Known) → onModel m (map lending l) .1 ≡ onKnown m l
-unfolding onModel onKnown knownStep modelStep modelAnswer
+unfolding onModel onKnown knownStep modelStep admittingBlock modelAnswer
 known-run m s [] = refl
 known-run m s (call c ∷ l) = ap (answered (modelStep m c .1)) (known-run (modelStep m c .0) (valid-step m s c) l)
 known-run m s (counting ∷ l) = ap₂ (λ n. answered (countedStanding m n)) (pairs-computed m (s .containers)) (known-run m s l)
@@ -98,6 +153,9 @@ known-run m s (entry b o e ∷ l) =
     rw (← e (m .settings)) (ap (answered (modelStep m (change (admit b)) .1)) (known-run (modelStep m (change (admit b)) .0) (valid-step m s (change (admit b))) l))
 known-run m s (settings b o e ∷ l) =
     rw (← e) (ap (answered (modelStep m (openWith b) .1)) (known-run (modelStep m (openWith b) .0) (valid-step m s (openWith b)) l))
+known-run m s (batch b h n t ∷ l) =
+    let c = change (admitBatch (flatten (bytesOf b)) n t) in
+    rw (← batch-known m b h n t) (ap (answered (modelStep m c .1)) (known-run (modelStep m c .0) (valid-step m s c) l))
 known-run m s (elsewhere x e c ∷ l) = ap (λ t. record { answer = refusal 1; other = some x } ∷ t) (known-run m s l)
 
 -- ---- the blocks of the list
@@ -171,6 +229,25 @@ opensWith s v = settings (settingsBlock s) (accepted s) (settings-read s v)
 elsewhereAt : (n : ℕ) → eqb n memoryWords ≡ false → Call → Known
 elsewhereAt n h c = elsewhere (replicate n 0) (Listed.zeros-other n h) c
 
+blockFor : (e : Entry) → ((s : Settings) → validEntry s e ≡ true) → Block
+blockFor e v = record { bytes = blockOf e; size = written-length printedSettings e (v printedSettings); read = accepted e; reads = λ s. written-read s e (v s) }
+
+unchecked-size : length uncheckedBlock ≡ 512
+unfolding uncheckedBlock
+unchecked-size = ap suc (length-replicate {A = ℕ} 511 0)
+
+threeKnown : List Block
+unfolding Written.validEntry Written.validLabels Written.inRange Reader.within
+threeKnown =
+    blockFor (container (label 3 2 ∷ [])) (λ s. refl)
+    ∷ record { bytes = uncheckedBlock; size = unchecked-size; read = refused (at 4 510); reads = λ s. block-refusals s .unchecked }
+    ∷ blockFor (policy (policyTo egress (label 3 2 ∷ []) [])) (λ s. refl)
+    ∷ []
+
+three-few : length threeKnown ≤ 128
+unfolding threeKnown
+three-few = omega arith
+
 fresh : Known
 unfolding Written.validEntry Written.validLabels
 fresh = reads noLabels (λ s. refl)
@@ -234,6 +311,13 @@ knowns =
     ∷ call (ask (nextFinding (Listed.cursor 5 65535 65535)))
     ∷ call (change rebuild)
     ∷ counting
+    ∷ call (Listed.batchOf (shortBlock ∷ []) 0 (tallyOf 0 0))
+    ∷ batch threeKnown three-few 5 (tallyOf 0 0)
+    ∷ batch [] (omega arith) 0 (tallyOf 3 4)
+    ∷ elsewhereAt 5762 refl (Listed.batchOf Listed.threeBlocks 6 (tallyOf 0 0))
+    ∷ batch threeKnown three-few 7 (tallyOf 18446744073709551614 8)
+    ∷ counting
+    ∷ call (ask audit)
     ∷ opensWith otherSettings refl
     ∷ counting
     ∷ (replicate 128 fresh
@@ -247,12 +331,13 @@ knowns =
     ∷ []))
 
 knowns-listed : callsOf listed ≡ map lending knowns
-unfolding listed knowns containerOf policyOf reads opensWith elsewhereAt fresh
+unfolding listed knowns containerOf policyOf reads opensWith elsewhereAt fresh threeKnown blockFor Listed.threeBlocks
 knowns-listed = refl
 
 computes : onKnown (empty printedSettings) knowns ≡ seenOf listed
-unfolding listed knowns containerOf policyOf reads opensWith elsewhereAt fresh
-    onKnown knownStep
+unfolding listed knowns containerOf policyOf reads opensWith elsewhereAt fresh threeKnown blockFor
+    onKnown knownStep flatten
+    Batch.batchAnswer Batch.talliedOne ModelStep.admittingBatch Listed.shortBlock
     Rules.reaches Rules.permits Rules.someAllows Rules.someSelects Rules.sameDirection Rules.allows Rules.selects Rules.matches Rules.carries Rules.sameLabel
     Model.empty Model.withContainer Model.withPolicy Model.computedBits Model.matrixBit Model.selectedBit Model.allowedBit
     ModelStep.modelStep ModelStep.opening ModelStep.placing ModelStep.placingPolicy ModelStep.admitting ModelStep.removing ModelStep.removingPolicy

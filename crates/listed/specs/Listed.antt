@@ -1,4 +1,4 @@
--- One list of calls of every kind, with the refusals 1 and 3 to 13 among them, and the answers that documents 01 and 02 give them.
+-- One list of calls of every kind, with the refusals 1 and 3 to 14 among them, and the answers that documents 01 and 02 give them.
 use mathlib.Core.Path.{_≡_, refl, sym, _∙_}
 use mathlib.Core.Bool.{true, false}
 use mathlib.Core.List.{List, [], _∷_, _++_, map, flatten}
@@ -11,10 +11,11 @@ use Rattle.block.specs.Entry.{Label, Direction, ingress, egress, Settings, Entr
 use Rattle.block.specs.Written.{sealed, blockOf, settingsBlock}
 use Rattle.model.specs.Findings.{Place}
 use Rattle.model.specs.Findings.{finding, start}
+use Rattle.model.specs.declared.Tally.{Tally}
 use Rattle.stars.specs.Stars.{label, policyTo}
 use Rattle.model.specs.Calls.{askReaches, askUser, nextFinding, listFindings, counts, audit, write}
-use Rattle.model.specs.Calls.{Call, openWith, change, admit, removeContainer, removePolicy, rebuild, ask}
-use Rattle.model.specs.Calls.{Answer, refusal, done, containerAt, policyAt, says, found, noFinding, findingsPut, counted, filePut}
+use Rattle.model.specs.Calls.{Call, openWith, change, admit, admitBatch, removeContainer, removePolicy, rebuild, ask}
+use Rattle.model.specs.Calls.{Answer, refusal, done, containerAt, policyAt, says, found, noFinding, findingsPut, counted, filePut, batchPut}
 use Rattle.store.specs.Layout.{memoryWords}
 use Rattle.files.specs.Tables.{containerBlock, policyBlock}
 use Rattle.steps.specs.Refinement.{Lending, ours, other, Seen}
@@ -103,6 +104,17 @@ puts l k a b = findingsPut l (cursor k a b)
 -- these blocks were written
 abbrev pub writes : List (List ℕ) → Answer
 writes bs = filePut (flatten bs)
+
+-- these blocks at once, with a list of so many numbers and a tally of so many taken and refused
+abbrev pub tallyOf : ℕ → ℕ → Tally
+tallyOf t r = record { taken = t; refused = r }
+
+abbrev pub batchOf : List (List ℕ) → ℕ → Tally → Call
+batchOf bs n t = change (admitBatch (flatten bs) n t)
+
+-- a container, a block of a wrong checksum, and a policy that selects that container
+unfoldable pub threeBlocks : List (List ℕ)
+threeBlocks = containerBlock (label 3 2 ∷ []) ∷ uncheckedBlock ∷ policyBlock (policyTo egress (label 3 2 ∷ []) []) ∷ []
 
 -- ---- the list, after an open with the printed settings
 
@@ -196,6 +208,14 @@ listed =
     ∷ gives (ask (nextFinding (cursor 5 65535 65535))) (meets 7 1 1)
     ∷ gives (change rebuild) done
     ∷ gives (ask counts) (counted 4 2 13)
+    -- batches: of no whole block, with too short a list, of none, of three blocks, one of them refused
+    ∷ gives (batchOf (shortBlock ∷ []) 0 (tallyOf 0 0)) (refusal 14)
+    ∷ gives (batchOf threeBlocks 5 (tallyOf 0 0)) (refusal 13)
+    ∷ gives (batchOf [] 0 (tallyOf 3 4)) (batchPut [] (tallyOf 3 4))
+    ∷ givesOther 5762 refl (batchOf threeBlocks 6 (tallyOf 0 0))
+    ∷ gives (batchOf threeBlocks 7 (tallyOf 18446744073709551614 8)) (batchPut ((0, 4) ∷ (4, 0) ∷ (0, 2) ∷ []) (tallyOf 18446744073709551615 9))
+    ∷ gives (ask counts) (counted 5 3 17)
+    ∷ gives (ask audit) (says true)
     -- open again; then all policies that the table takes, and one more
     ∷ gives (openWith (settingsBlock otherSettings)) done
     ∷ gives (ask counts) (counted 0 0 0)

@@ -21,7 +21,7 @@ use Rattle.formed.proofs.Back.{image-written}
 use Rattle.formed.proofs.StoredLaws.{Fit, stored-matrix, stored-cong}
 use Rattle.matrix_resets.specs.Resets.{resetWhere, product, masked, RowReset}
 
--- ---- a row of the matrix
+-- ---- a row of the stored bits
 
 masked-bit : (old rule mask : Bool) → ((old && not mask) || (rule && mask)) ≡ cond mask rule old
 masked-bit true true true = refl
@@ -33,16 +33,16 @@ masked-bit false true false = refl
 masked-bit false false true = refl
 masked-bit false false false = refl
 
-module _ (m row : List ℕ) (a : ℕ) (mask rule : ℕ → Bool) (ha : a < 256) (e : bitAt row ≡ join (less (bitAt (rowAt m a)) mask) (meet rule mask)) where
+module _ (m row : List ℕ) (a : ℕ) (mask rule : ℕ → Bool) (ha : a < rowCount) (e : bitAt row ≡ join (less (bitAt (rowAt m a)) mask) (meet rule mask)) where
   row-masked : (c : Contents) → Holds m c → (y : ℕ) → y < 256 → bitAt row y ≡ masked mask rule (c .bits a) y
   unfolding masked join less meet
   row-masked c h y hy =
-      point e y ∙ ap (λ (o : Bool). (o && not (mask y)) || (rule y && mask y)) (row-bit m a y hy ∙ h .bits a y (omega arith) hy) ∙ masked-bit (c .bits a y) (rule y) (mask y)
+      point e y ∙ ap (λ (o : Bool). (o && not (mask y)) || (rule y && mask y)) (row-bit m a y hy ∙ h .bits a y ha hy) ∙ masked-bit (c .bits a y) (rule y) (mask y)
 
   pub row-reset : {m′ : List ℕ} → m′ ≡ rowSet m a row → RowReset m m′ a mask rule
   unfolding withRow
   row-reset f = record {
-    holds = λ c h. holds-as (holds-by (holds-row h a row (omega arith)) f) _ (record {
+    holds = λ c h. holds-as (holds-by (holds-row h a row ha) f) _ (record {
       words = λ k l. refl;
       bits = λ x y hx hy. by-eqb (λ t. cond t (bitAt row) (c .bits x) y ≡ cond t (masked mask rule (c .bits a)) (c .bits x) y) x a (λ z. row-masked c h y hy) (λ n. refl);
     });

@@ -4,16 +4,16 @@ ghost use Prim.Native.Nat.{_<_};
 ghost use Rattle.bitrow.specs.Bit.{bitAt};
 ghost use Rattle.model.specs.Table.{stands};
 ghost use Rattle.model.specs.Model.{containerSlots};
-ghost use Rattle.store.specs.Layout.{Whole};
+ghost use Rattle.store.specs.Layout.{Whole, rowCount};
 ghost use Rattle.formed.specs.Registry.{modelIn, registryIn, image, EntriesFormed};
 ghost use Rattle.sets.specs.Sets.{Empty};
 ghost use Rattle.policy_sets.specs.PolicySets.{SetsStored};
 ghost use Rattle.matrix_resets.specs.Resets.{RowReset, RowsFrom, product, resetWhere};
 use matrix_rows::Gathered;
 
-// The bits of row a that are in the columns, set to those of a row by the rules.
-fn reset_row(memory: &mut [u64], a: usize, columns: [u64; 4], ruled: [u64; 4])
-    requires { ⌜ Whole (now memory) × (a < 256) ⌝ }
+// The bits of row a of the stored bits that are in the columns, set to those of a row by the rules.
+pub fn reset_row(memory: &mut [u64], a: usize, columns: [u64; 4], ruled: [u64; 4])
+    requires { ⌜ Whole (now memory) × (a < rowCount) ⌝ }
     ensures { λ u. ⌜ RowReset (now (memory .entry)) (now (memory .exit)) a (bitAt columns) (bitAt ruled) ⌝ }
 {
     let old = access::row_at(memory, a);

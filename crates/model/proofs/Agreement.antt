@@ -1,34 +1,37 @@
 -- On computed bits each call's checks, changes and answers come out as the model's own; over a list of calls by induction.
-use mathlib.Core.Path.{_≡_, refl, ap, _∙_}
-use mathlib.Core.Bool.{Bool, true, false, _&&_, _||_, cond}
+use mathlib.Core.Path.{_≡_, refl, sym, ap, ap₂, _∙_}
+use mathlib.Core.Bool.{Bool, true, false, not, _&&_, _||_, cond}
 use mathlib.Core.Logic.{_↔_}
 use mathlib.Core.List.{List, [], _∷_, _++_}
 use mathlib.Core.Option.{Option, none, some}
-use Prim.Native.Nat.{ℕ}
-use lib.Dec.{leb, ltb}
+use Prim.Native.Nat.{ℕ, _*_, _%_}
+use lib.Dec.{eqb, leb, ltb}
 use lib.ListN.{length, length-set, length-replicate}
 use borrow.Author.Tests.{ltb-true, ltb-false, le-leb, lt-leb}
 use Rattle.block.specs.declared.Fault.{Fault}
 use Rattle.block.specs.declared.Fault.the-variants.{Nowhere, At}
-use Rattle.block.specs.Entry.{Container, Policy, Settings, Entry, container, policy}
+use Rattle.block.specs.Cut.{blocksOf}
+use Rattle.block.specs.Entry.{Container, Policy, Settings}
 use Rattle.block.specs.declared.Tested.{Tested}
 use Rattle.block.specs.declared.Tested.the-variants.{Passed, Refused}
-use Rattle.block.specs.Refusal.{Check, check, refuse, firstRefusal, accepted}
-use Rattle.block.specs.Refusal.{readUnless}
-use Rattle.block.specs.Reader.{settingsChecks, entryChecks, settingsSaid, entrySaid, readSettings, readEntry}
-use Rattle.model.specs.Table.{Table, on, isFree, at, free, lowestFree}
+use Rattle.block.specs.Refusal.{Check, check, refuse, firstRefusal, readUnless}
+use Rattle.block.specs.Reader.{settingsChecks, settingsSaid, readSettings}
+use Rattle.model.specs.declared.Tally.{Tally}
+use Rattle.model.specs.Table.{Table, on, isFree, at, free}
 use Rattle.model.specs.Rules.{carries}
 use Rattle.model.specs.Model.{containerSlots, policySlots, Model, empty, withContainer, withPolicy, computedBits}
 use Rattle.model.specs.Calls.{askReaches, askUser, nextFinding, listFindings, counts, audit, write}
-use Rattle.model.specs.Calls.{Call, openWith, change, admit, removeContainer, removePolicy, rebuild, ask}
-use Rattle.model.specs.Calls.{refusal, done, containerAt, policyAt, says, filePut, run}
+use Rattle.model.specs.Calls.{Call, openWith, change, admit, admitBatch, removeContainer, removePolicy, rebuild, ask}
+use Rattle.model.specs.Calls.{refusal, done, says, filePut, run}
+use Rattle.model.specs.Batch.{batchOutcome}
 use Rattle.model.specs.File.{fileOf}
-use Rattle.model.specs.ModelStep.{opening, placing, placingPolicy, admitting, removing, removingPolicy, asking, askingUser, modelAnswer, modelStep}
+use Rattle.model.specs.ModelStep.{opening, removing, removingPolicy, asking, askingUser, modelAnswer, admittingBlock, admittingBatch, modelStep}
 use Rattle.model.specs.Registry.{Registry, computed, consistent, FollowsRules, changeContainer, rebuilt}
-use Rattle.model.specs.Refusals.{where0, slotChecks, pairChecks, noRoom, refusals}
-use Rattle.model.specs.RegistryStep.{admitContainer, admitPolicy, admitEntry, takePolicy, answerTo, acceptedStep, unlessRefused, registryStep}
-use Rattle.model.proofs.Tables.{lowest-is-free, full-lowest, free-at, beyond-ltb}
-use Rattle.model.proofs.WrittenRules.{container-changed, policy-admitted, policy-removed}
+use Rattle.model.specs.Refusals.{where0, slotChecks, pairChecks, admitChecks, refusals}
+use Rattle.model.specs.RegistryStep.{admitUnless, admitBlock, takePolicy, answerTo, acceptedStep, unlessRefused, registryStep}
+use Rattle.model.proofs.Tables.{free-at, beyond-ltb}
+use Rattle.model.proofs.WrittenRules.{change-computed, container-changed, policy-removed}
+use Rattle.model.proofs.Admission.{slotAnswer, comes-fits, Outcome, turned, came, outcome}
 use Rattle.model.proofs.Kept.{Kept, step-keeps}
 use Rattle.model.proofs.Consistent.{consistent-exactly, computed-consistent, opened-computed}
 
@@ -92,42 +95,51 @@ module _ {A : Type 0} (r : Registry) (call : Call) (size : ℕ) (t : Table A) (w
 
 -- ---- each call
 
-module _ (m : Model) (sized : Sized m) where
+-- A batch's fold is that of admit's own step.
+pub admit-step : (r : Registry) (b : List ℕ) → registryStep r (change (admit b)) ≡ admitBlock r b
+unfolding registryStep refusals unlessRefused acceptedStep admitBlock admitUnless
+admit-step r b = pick (firstRefusal (admitChecks (r .model) b))
+  where
+    pick : (o : Tested) → unlessRefused r (change (admit b)) o ≡ admitUnless r b o
+    pick Passed = refl
+    pick (Refused f) = refl
+
+module _ (m : Model) where
   open-agrees : (b : List ℕ) (o : Tested)
       → unlessRefused (computed m) (openWith b) o ≡ asComputed (opening m (readUnless o (settingsSaid b)))
   unfolding unlessRefused acceptedStep opening
   open-agrees b Passed = ap (λ r. (r, done)) (opened-computed (settingsSaid b))
   open-agrees b (Refused f) = refl
 
-  -- no room: the search finds no slot
-  admit-container : (x : Container) (o : Option ℕ) → lowestFree (m .containers) ≡ o
-      → cond (isFree o) (computed m, refusal 12) (admitContainer (computed m) x o) ≡ asComputed (placing m x o)
-  unfolding admitContainer placing
-  admit-container x none e = refl
-  admit-container x (some c) e = ap (λ r. (r, containerAt c)) (container-changed m c (some x))
-
-  admit-policy : (p : Policy) (o : Option ℕ) → lowestFree (m .policies) ≡ o
-      → cond (isFree o) (computed m, refusal 12) (admitPolicy (computed m) p o) ≡ asComputed (placingPolicy m p o)
-  unfolding admitPolicy placingPolicy
-  admit-policy p none e = refl
-  admit-policy p (some q) e = ap (λ r. (r, policyAt q)) (policy-admitted m q p (lowest-is-free (m .policies) q e))
-
-  admit-entry : (e : Entry) → cond (noRoom m e) (computed m, refusal 12) (admitEntry (computed m) e) ≡ asComputed (admitting m (accepted e))
-  unfolding noRoom admitEntry admitting computed
-  admit-entry (container x) = rw (← full-lowest (m .containers)) (admit-container x (lowestFree (m .containers)) refl)
-  admit-entry (policy p) = rw (← full-lowest (m .policies)) (admit-policy p (lowestFree (m .policies)) refl)
-
-  admit-agrees : (b : List ℕ) (o : Tested)
-      → unlessRefused (computed m) (change (admit b)) (orRefusal o (firstRefusal (check 12 (where0 (noRoom m (entrySaid b))) ∷ [])))
-      ≡ asComputed (admitting m (readUnless o (entrySaid b)))
-  unfolding unlessRefused acceptedStep orRefusal admitting
-  admit-agrees b Passed = pick (noRoom m (entrySaid b)) ∙ admit-entry (entrySaid b)
+  admit-agrees : (b : List ℕ) → admitBlock (computed m) b ≡ asComputed (admittingBlock m b)
+  unfolding computed
+  admit-agrees b = pick (outcome (computed m) b)
     where
-      pick : (u : Bool) → unlessRefused (computed m) (change (admit b)) (firstRefusal (check 12 (where0 u) ∷ []))
-          ≡ cond u (computed m, refusal 12) (admitEntry (computed m) (entrySaid b))
-      pick true = refl
-      pick false = refl
-  admit-agrees b (Refused f) = refl
+      pick : Outcome (computed m) b → admitBlock (computed m) b ≡ asComputed (admittingBlock m b)
+      pick (turned n e s) = s ∙ sym (ap asComputed e)
+      pick (came c g e s) = s ∙ ap (λ r. (r, slotAnswer c)) (change-computed m c (comes-fits m c g)) ∙ sym (ap asComputed e)
+
+admissions-agree : (m : Model) (bs : List (List ℕ)) → run admitBlock (computed m) bs ≡ asComputed (run admittingBlock m bs)
+admissions-agree m [] = refl
+admissions-agree m (b ∷ bs) = rw (admit-agrees m b, admissions-agree (admittingBlock m b .0) bs)
+
+not-ltb : (a b : ℕ) → not (ltb a b) ≡ leb b a
+not-ltb a b = pick (ltb a b) refl
+  where
+    pick : (t : Bool) → ltb a b ≡ t → not t ≡ leb b a
+    pick true e = sym (lt-leb b a (ltb-true a b e))
+    pick false e = sym (le-leb b a (ltb-false a b e))
+
+module _ (m : Model) (sized : Sized m) where
+  -- by what is too long, of whole blocks, and has too little room
+  batch-agrees : (bs : List ℕ) (n : ℕ) (t : Tally) (u v w : Bool)
+      → unlessRefused (computed m) (change (admitBatch bs n t)) (firstRefusal (check 14 (where0 (u || not v)) ∷ check 13 (where0 w) ∷ []))
+      ≡ asComputed (cond (not u && v) (cond (not w) (batchOutcome t (run admittingBlock m (blocksOf bs))) (m, refusal 13)) (m, refusal 14))
+  unfolding unlessRefused acceptedStep
+  batch-agrees bs n t true v w = refl
+  batch-agrees bs n t false false w = refl
+  batch-agrees bs n t false true true = refl
+  batch-agrees bs n t false true false = ap (batchOutcome t) (admissions-agree m (blocksOf bs))
 
   remove-agrees : (c : ℕ) (u : Bool) (x : Option Container)
       → cond u (cond (isFree x) (computed m, refusal 11) (changeContainer (computed m) c none, done)) (computed m, refusal 10)
@@ -172,11 +184,15 @@ module _ (m : Model) (sized : Sized m) where
 
   -- One call: the registry of computed bits is refused, answers and changes as the model.
   pub step-agrees : (call : Call) → registryStep (computed m) call ≡ asComputed (modelStep m call)
-  unfolding modelStep modelAnswer registryStep refusals computed acceptedStep answerTo unlessRefused rebuilt readSettings readEntry
-  step-agrees (openWith b) = open-agrees b (firstRefusal (settingsChecks b))
-  step-agrees (change (admit b)) =
-      ap (unlessRefused (computed m) (change (admit b))) (first-append (entryChecks (m .settings) b) (check 12 (where0 (noRoom m (entrySaid b))) ∷ []))
-      ∙ admit-agrees b (firstRefusal (entryChecks (m .settings) b))
+  unfolding modelStep modelAnswer registryStep refusals computed acceptedStep answerTo unlessRefused rebuilt readSettings admittingBatch
+  step-agrees (openWith b) = open-agrees m b (firstRefusal (settingsChecks b))
+  step-agrees (change (admit b)) = admit-step (computed m) b ∙ admit-agrees m b
+  step-agrees (change (admitBatch bs n t)) =
+      let whole = eqb (length bs % 512) 0 in
+      let taken = batchOutcome t (run admittingBlock m (blocksOf bs)) in
+      batch-agrees bs n t (ltb 65536 (length bs)) whole (ltb n (2 * length (blocksOf bs)))
+      ∙ ap₂ (λ (u w : Bool). asComputed (cond (u && whole) (cond w taken (m, refusal 13)) (m, refusal 14)))
+      (not-ltb 65536 (length bs)) (not-ltb n (2 * length (blocksOf bs)))
   step-agrees (change (removeContainer c)) =
       slot-step (computed m) (change (removeContainer c)) containerSlots (m .containers) (sized .containers) c refl
       ∙ remove-agrees c (ltb c containerSlots) (at (m .containers) c)

@@ -105,7 +105,7 @@ module _ {S P : Type 0} (B : Book S P) where
   off-pair s c x a b e = neither (eqb a c) (eqb b c) e
 
 -- another slot holds what it held
-other-slot : {A : Type 0} (t : Table A) (c i : ℕ) (x : Option A) → eqb i c ≡ false → at (set t c x) i ≡ at t i
+pub other-slot : {A : Type 0} (t : Table A) (c i : ℕ) (x : Option A) → eqb i c ≡ false → at (set t c x) i ≡ at t i
 other-slot t c i x e = getD-set-other t c i x none (eqb-false i c e)
 
 module _ {S P : Type 0} (B : Book S P) (laws : BookLaws B) where

@@ -69,7 +69,7 @@ module _ {S P : Type 0} (B : Book S P) (laws : BookLaws B) where
 -- ---- the registry
 
 -- the bits of a registry by their places
-abbrev storedAt : Registry → BitPlace → Bool
+abbrev pub storedAt : Registry → BitPlace → Bool
 storedAt r (matrix a b) = r .bits .matrix a b
 storedAt r (selected q c) = r .bits .selected q c
 storedAt r (allowed q c) = r .bits .allowed q c

@@ -141,17 +141,17 @@ module _ (m : Model) where
 
 -- ---- lists of calls
 
-module _ {S : Type 0} (step : S → Call → S × Answer) where
+module _ {S K A : Type 0} (step : S → K → S × A) where
   -- a call whose outcome is known, and those after it
-  pub run-next : (s t : S) (a : Answer) (call : Call) (calls : List Call) → step s call ≡ (t, a)
-      → run step s (call ∷ calls) ≡ (run step t calls .0, a ∷ run step t calls .1)
-  run-next s t a call calls e = ap (λ (r : S × Answer). (run step (r .0) calls .0, r .1 ∷ run step (r .0) calls .1)) e
+  pub run-next : (s t : S) (a : A) (k : K) (ks : List K) → step s k ≡ (t, a) → run step s (k ∷ ks) ≡ (run step t ks .0, a ∷ run step t ks .1)
+  run-next s t a k ks e = ap (λ (r : S × A). (run step (r .0) ks .0, r .1 ∷ run step (r .0) ks .1)) e
 
-  pub run-append : (s : S) (xs ys : List Call)
+  pub run-append : (s : S) (xs ys : List K)
       → run step s (xs ++ ys) ≡ (run step (run step s xs .0) ys .0, run step s xs .1 ++ run step (run step s xs .0) ys .1)
   run-append s [] ys = refl
-  run-append s (x ∷ xs) ys = ap (λ (r : S × List Answer). (r .0, step s x .1 ∷ r .1)) (run-append (step s x .0) xs ys)
+  run-append s (x ∷ xs) ys = ap (λ (r : S × List A). (r .0, step s x .1 ∷ r .1)) (run-append (step s x .0) xs ys)
 
+module _ {S : Type 0} (step : S → Call → S × Answer) where
   -- where each call puts its entry at the lowest free slot, entries one after another take the slots after those that stand, one by one
   module _ {A : Type 0} (hold : Table A → S) (call : A → Call) (answer : ℕ → Answer) (P : A → Type 0)
       (puts : (t : Table A) (x : A) (i : ℕ) → P x → lowestFree t ≡ some i → step (hold t) (call x) ≡ (hold (set t i (some x)), answer i)) where
@@ -161,6 +161,6 @@ module _ {S : Type 0} (step : S → Call → S × Answer) where
     run-fills l (x ∷ xs) zero t h = absurd (not-suc-le-zero h)
     run-fills l (x ∷ xs) (suc n) t h =
         let more : length (l ++ x ∷ []) ≡ suc (length l) = omega (arith, length-append l (x ∷ [])) in
-        run-next (hold (packed l (suc n))) (hold (packed (l ++ x ∷ []) n)) (answer (length l)) (call x) (map call xs)
+        run-next step (hold (packed l (suc n))) (hold (packed (l ++ x ∷ []) n)) (answer (length l)) (call x) (map call xs)
         (puts (packed l (suc n)) x (length l) (t .0) (packed-lowest l n) ∙ ap (λ (u : Table A). (hold u, answer (length l))) (packed-put l n x))
         ∙ rw (run-fills (l ++ x ∷ []) xs n (t .1) (le-of-suc-le-suc h), append-snoc, more, suc-sub-suc)

@@ -1,17 +1,21 @@
 -- A property that the empty model has, and that one entry put or taken away leaves, is left by every call: one walk over the calls.
 use mathlib.Core.Path.{_≡_, refl}
-use mathlib.Core.Bool.{Bool, true, false, cond}
-use mathlib.Core.List.{List}
+use mathlib.Core.Bool.{Bool, true, false, _&&_, cond}
+use mathlib.Core.List.{List, [], _∷_}
 use mathlib.Core.Option.{Option, none, some}
-use Prim.Native.Nat.{ℕ}
-use lib.Dec.{ltb}
+use Prim.Native.Nat.{ℕ, _*_, _%_}
+use lib.Dec.{eqb, leb, ltb}
+use lib.ListN.{length}
+use Rattle.block.specs.Cut.{blocksOf}
 use Rattle.block.specs.Entry.{Container, Policy, Settings, Entry, container, policy}
 use Rattle.block.specs.Refusal.{Read, refused, accepted}
 use Rattle.block.specs.Reader.{readSettings, readEntry}
+use Rattle.model.specs.declared.Tally.{Tally}
 use Rattle.model.specs.Table.{at, lowestFree}
 use Rattle.model.specs.Model.{containerSlots, policySlots, Model, empty, withContainer, withPolicy}
-use Rattle.model.specs.Calls.{Call, openWith, change, admit, removeContainer, removePolicy, rebuild, ask, refusal}
-use Rattle.model.specs.ModelStep.{opening, placing, placingPolicy, admitting, removing, removingPolicy, modelStep}
+use Rattle.model.specs.Calls.{Call, openWith, change, admit, admitBatch, removeContainer, removePolicy, rebuild, ask, refusal, run}
+use Rattle.model.specs.Batch.{batchOutcome}
+use Rattle.model.specs.ModelStep.{opening, placing, placingPolicy, admitting, removing, removingPolicy, admittingBlock, admittingBatch, modelStep}
 
 -- P holds of no entries under settings that open accepts, and stays where an entry that admit accepts comes, or one goes.
 pub record Kept (P : Model → Type 0) : Type 0 where
@@ -43,6 +47,22 @@ module _ {P : Model → Type 0} (kept : Kept P) (m : Model) (holds : P m) where
   admit-keeps b (accepted (container x)) e = place-keeps b x (lowestFree (m .containers)) e
   admit-keeps b (accepted (policy p)) e = place-policy-keeps b p (lowestFree (m .policies)) e
 
+  block-keeps : (b : List ℕ) → P (admittingBlock m b .0)
+  unfolding admittingBlock
+  block-keeps b = admit-keeps b (readEntry (m .settings) b) refl
+
+-- blocks one after another
+pub admissions-keep : {P : Model → Type 0} (kept : Kept P) (m : Model) → P m → (bs : List (List ℕ)) → P (run admittingBlock m bs .0)
+admissions-keep kept m h [] = h
+admissions-keep kept m h (b ∷ bs) = admissions-keep kept (admittingBlock m b .0) (block-keeps kept m h b) bs
+
+module _ {P : Model → Type 0} (kept : Kept P) (m : Model) (holds : P m) where
+  batch-keeps : (bs : List ℕ) (t : Tally) (u v : Bool)
+      → P ((cond u (cond v (batchOutcome t (run admittingBlock m (blocksOf bs))) (m, refusal 13)) (m, refusal 14)) .0)
+  batch-keeps bs t false v = holds
+  batch-keeps bs t true false = holds
+  batch-keeps bs t true true = admissions-keep kept m holds (blocksOf bs)
+
   remove-keeps : (c : ℕ) (u : Bool) (x : Option Container) → P ((cond u (removing m c x) (m, refusal 10)) .0)
   unfolding removing
   remove-keeps c false x = holds
@@ -56,9 +76,10 @@ module _ {P : Model → Type 0} (kept : Kept P) (m : Model) (holds : P m) where
   remove-policy-keeps q true (some p) = kept .policyGone m holds q
 
   pub step-keeps : (call : Call) → P (modelStep m call .0)
-  unfolding modelStep
-  step-keeps (openWith b) = open-keeps b (readSettings b) refl
-  step-keeps (change (admit b)) = admit-keeps b (readEntry (m .settings) b) refl
+  unfolding modelStep admittingBatch
+  step-keeps (openWith b) = open-keeps kept m holds b (readSettings b) refl
+  step-keeps (change (admit b)) = block-keeps kept m holds b
+  step-keeps (change (admitBatch bs n t)) = batch-keeps bs t (leb (length bs) 65536 && eqb (length bs % 512) 0) (leb (2 * length (blocksOf bs)) n)
   step-keeps (change (removeContainer c)) = remove-keeps c (ltb c containerSlots) (at (m .containers) c)
   step-keeps (change (removePolicy q)) = remove-policy-keeps q (ltb q policySlots) (at (m .policies) q)
   step-keeps (change rebuild) = holds

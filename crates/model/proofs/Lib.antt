@@ -11,7 +11,11 @@ pub mod Changes
 pub mod Book
 pub mod WrittenRules
 pub mod Clear
+pub mod Admission
 pub mod Kept
 pub mod Agreement
+pub mod Came
+pub mod OnePass
 pub mod Refused
+pub mod Batch
 pub mod File

@@ -23,11 +23,12 @@ use Rattle.model.specs.Table.{all, isFree, at, free, lowestFree}
 use Rattle.model.specs.Model.{policySlots, Model}
 use Rattle.model.specs.Findings.{nextAfter}
 use Rattle.model.specs.Calls.{askReaches, askUser, nextFinding, listFindings, counts, audit, write}
-use Rattle.model.specs.Calls.{Call, openWith, change, admit, removeContainer, removePolicy, rebuild, ask}
+use Rattle.model.specs.Calls.{Call, openWith, change, admit, admitBatch, removeContainer, removePolicy, rebuild, ask}
 use Rattle.model.specs.Calls.{refusal, foundAnswer, said}
+use Rattle.model.specs.Batch.{batchAnswer}
 use Rattle.model.specs.ModelStep.{modelStep}
 use Rattle.model.specs.Registry.{Registry, computed}
-use Rattle.model.specs.Refusals.{where0, beyond, slotChecks, noRoom, refusals, Refuses}
+use Rattle.model.specs.Refusals.{where0, beyond, slotChecks, noRoom, admitChecks, refusals, Refuses}
 use Rattle.model.specs.RegistryStep.{admitContainer, admitPolicy, admitEntry, takePolicy, answerTo, acceptedStep, unlessRefused, registryStep}
 use Rattle.model.proofs.Tables.{full-lowest, free-at}
 use Rattle.model.proofs.Agreement.{Sized, orRefusal, first-append, step-agrees}
@@ -117,11 +118,12 @@ module _ (r : Registry) (sized : Sized (r .model)) where
   next-answer (some g) = refl
 
   pub accepted-answers : (call : Call) → firstRefusal (refusals r call) ≡ Passed → said (acceptedStep r call .1) .refused ≡ none
-  unfolding acceptedStep answerTo refusals
+  unfolding acceptedStep answerTo refusals admitChecks batchAnswer
   accepted-answers (openWith b) e = refl
   accepted-answers (change (admit b)) e =
       admitted (entrySaid b)
       (passed-false 12 (noRoom (r .model) (entrySaid b)) Passed (both-passed (entryChecks (r .model .settings) b) _ e .1) .0)
+  accepted-answers (change (admitBatch bs n t)) e = refl
   accepted-answers (change (removeContainer c)) e = refl
   accepted-answers (change (removePolicy q)) e = taken q (at (r .model .policies) q) (holds-entry q e)
   accepted-answers (change rebuild) e = refl

@@ -92,7 +92,7 @@ unfolding registryWith computed computedBits matrixBit selectedBit allowedBit bi
 computed-is m = refl
 
 -- Every change that fits keeps a registry computed.
-change-computed : (m : Model) (c : EntryChange Policy) → Fitting modelBook m c → registryAfter (computed m) c ≡ computed (putEntry modelBook m c)
+pub change-computed : (m : Model) (c : EntryChange Policy) → Fitting modelBook m c → registryAfter (computed m) c ≡ computed (putEntry modelBook m c)
 unfolding bookChanges
 change-computed m c f =
     ap (λ r. registryAfter r c) (computed-is m)
@@ -100,15 +100,10 @@ change-computed m c f =
     ∙ ap (registryWith (putEntry modelBook m c)) (computed-after (bookChanges modelBook) (Fitting modelBook) (book-lawful modelBook model-laws) m (c ∷ []) (f, tt))
     ∙ sym (computed-is (putEntry modelBook m c))
 
--- a change at a container's slot, a policy admitted to a free slot, and one removed from its slot
+-- a change at a container's slot, and a policy removed from its slot
 pub container-changed : (m : Model) (c : ℕ) (x : Option Container) → changeContainer (computed m) c x ≡ computed (withContainer m c x)
 unfolding Fitting putEntry modelBook
 container-changed m c x = change-computed m (containerBecomes c x) tt
-
-pub policy-admitted : (m : Model) (q : ℕ) (p : Policy) → at (m .policies) q ≡ none
-    → changePolicy (computed m) q p (some p) ≡ computed (withPolicy m q (some p))
-unfolding Fitting putEntry modelBook IsOrFree
-policy-admitted m q p e = change-computed m (policyBecomes q p (some p)) (λ f h. rw e, λ f h. h)
 
 pub policy-removed : (m : Model) (q : ℕ) (p : Policy) → at (m .policies) q ≡ some p
     → changePolicy (computed m) q p none ≡ computed (withPolicy m q none)

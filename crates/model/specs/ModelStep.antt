@@ -1,19 +1,23 @@
 -- The reference model's step: document 01, "The plain book of demand 3". It knows of no stored bit and of no memory.
 use mathlib.Core.Bool.{true, _&&_, cond}
+use mathlib.Core.List.{List}
 use mathlib.Core.Option.{Option, none, some}
-use Prim.Native.Nat.{ℕ}
-use lib.Dec.{leb, ltb}
+use Prim.Native.Nat.{ℕ, _*_, _%_}
+use lib.Dec.{eqb, leb, ltb}
 use lib.ListN.{length}
+use Rattle.block.specs.Cut.{blocksOf}
 use Rattle.block.specs.Entry.{Container, Policy, Settings, Entry, container, policy}
 use Rattle.block.specs.Refusal.{Read, refused, accepted}
 use Rattle.block.specs.Reader.{readSettings, readEntry}
+use Rattle.model.specs.declared.Tally.{Tally}
 use Rattle.model.specs.Table.{at, lowestFree}
 use Rattle.model.specs.Rules.{carries}
 use Rattle.model.specs.Model.{containerSlots, policySlots, Model, empty, withContainer, withPolicy, computedBits}
 use Rattle.model.specs.Findings.{containersOf, policiesOf, nextAfter, walk, pairs}
 use Rattle.model.specs.Calls.{Query, askReaches, askUser, nextFinding, listFindings, counts, audit, write}
-use Rattle.model.specs.Calls.{Call, openWith, change, admit, removeContainer, removePolicy, rebuild, ask}
-use Rattle.model.specs.Calls.{Answer, refusal, done, containerAt, policyAt, says, counted, filePut, foundAnswer, findingsAnswer}
+use Rattle.model.specs.Calls.{Call, openWith, change, admit, admitBatch, removeContainer, removePolicy, rebuild, ask}
+use Rattle.model.specs.Calls.{Answer, refusal, done, containerAt, policyAt, says, counted, filePut, foundAnswer, findingsAnswer, run}
+use Rattle.model.specs.Batch.{batchOutcome}
 use Rattle.model.specs.File.{fileOf}
 
 module _ (m : Model) where
@@ -68,12 +72,26 @@ module _ (m : Model) where
   -- "writes .. into lent bytes, and says how many it used"; "a buffer with too few bytes is 13"
   modelAnswer (write n) = cond (leb (length (fileOf m)) n) (filePut (fileOf m)) (refusal 13)
 
+-- "Admit": what a block does
+unfoldable pub admittingBlock : Model → List ℕ → Model × Answer
+admittingBlock m b = admitting m (readEntry (m .settings) b)
+
+-- document 02, Note 2: "One call shall take up to 128 admission blocks and write two 16-bit numbers for each into a lent list. Book and
+-- answers equal those of admitting one after another. Turned away: a length over 65,536 or not a multiple of 512 is 14; then an answer
+-- list too short is 13."
+unfoldable pub admittingBatch : Model → List ℕ → ℕ → Tally → Model × Answer
+admittingBatch m bs n t =
+    cond (leb (length bs) 65536 && eqb (length bs % 512) 0)
+    (cond (leb (2 * length (blocksOf bs)) n) (batchOutcome t (run admittingBlock m (blocksOf bs))) (m, refusal 13))
+    (m, refusal 14)
+
 -- "A call goes through the checks it meets, in their order, over its arguments, these settings and these tables. Turned down,
 -- it changes nothing. Other calls, rebuild too, change nothing. Audit is answered that the book is in step; an accepted open,
 -- removal or rebuild, that it was done."
 unfoldable pub modelStep : Model → Call → Model × Answer
 modelStep m (openWith b) = opening m (readSettings b)
-modelStep m (change (admit b)) = admitting m (readEntry (m .settings) b)
+modelStep m (change (admit b)) = admittingBlock m b
+modelStep m (change (admitBatch bs n t)) = admittingBatch m bs n t
 modelStep m (change (removeContainer c)) = cond (ltb c containerSlots) (removing m c (at (m .containers) c)) (m, refusal 10)
 modelStep m (change (removePolicy q)) = cond (ltb q policySlots) (removingPolicy m q (at (m .policies) q)) (m, refusal 10)
 modelStep m (change rebuild) = (m, done)

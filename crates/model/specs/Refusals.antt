@@ -1,12 +1,13 @@
 -- The refusals that each call meets, in their order; 1 and 2 come with memory.
 use mathlib.Core.Bool.{Bool, true, not, _||_}
 use mathlib.Core.List.{List, [], _∷_, _++_}
-use Prim.Native.Nat.{ℕ}
+use Prim.Native.Nat.{ℕ, _*_, _%_}
 use mathlib.Core.Path.{_≡_}
-use lib.Dec.{leb, ltb}
+use lib.Dec.{eqb, leb, ltb}
 use lib.ListN.{length}
 use Rattle.block.specs.declared.Fault.{Fault}
 use Rattle.block.specs.declared.Fault.the-variants.{At}
+use Rattle.block.specs.Cut.{blocksOf}
 use Rattle.block.specs.Entry.{Entry, container, policy}
 use Rattle.block.specs.Fault.{unless, clear}
 use Rattle.block.specs.Refusal.{Check, check}
@@ -15,7 +16,7 @@ use Rattle.model.specs.Table.{Table, all, free, full}
 use Rattle.model.specs.Model.{containerSlots, policySlots, Model}
 use Rattle.model.specs.Registry.{Registry}
 use Rattle.model.specs.Calls.{askReaches, askUser, nextFinding, listFindings, counts, audit, write}
-use Rattle.model.specs.Calls.{Call, openWith, change, admit, removeContainer, removePolicy, rebuild, ask}
+use Rattle.model.specs.Calls.{Call, openWith, change, admit, admitBatch, removeContainer, removePolicy, rebuild, ask}
 use Rattle.model.specs.File.{fileOf}
 
 -- a fault of no position in a block, where the condition holds
@@ -39,15 +40,27 @@ unfoldable pub noRoom : Model → Entry → Bool
 noRoom m (container x) = full (m .containers)
 noRoom m (policy p) = full (m .policies)
 
+-- 3 to 9, then 12
+unfoldable pub admitChecks : Model → List ℕ → List Check
+admitChecks m b = entryChecks (m .settings) b ++ (check 12 (where0 (noRoom m (entrySaid b))) ∷ [])
+
+-- 14 and 13 of document 02, Note 2: "a length over 65,536 or not a multiple of 512 is 14; then an answer list too short is 13"
+abbrev pub batchChecks : List ℕ → ℕ → List Check
+batchChecks bs n =
+    check 14 (where0 (ltb 65536 (length bs) || not (eqb (length bs % 512) 0)))
+    ∷ check 13 (where0 (ltb n (2 * length (blocksOf bs))))
+    ∷ []
+
 -- 13 of document 02, Note 1: "a buffer with too few bytes"
 abbrev pub roomCheck : List ℕ → ℕ → Check
 roomCheck file n = check 13 (where0 (ltb n (length file)))
 
 -- "Open meets 1, 3, 4, 5, 7, 9. Admit meets 1 to 9 and 12. Removing and asking meet 1, 2, 10, 11. The rest meet 1 and 2." Writing
--- meets 1, 2, 13.
+-- meets 1, 2, 13, a batch 1, 2, 14, 13.
 unfoldable pub refusals : Registry → Call → List Check
 refusals r (openWith b) = settingsChecks b
-refusals r (change (admit b)) = entryChecks (r .model .settings) b ++ (check 12 (where0 (noRoom (r .model) (entrySaid b))) ∷ [])
+refusals r (change (admit b)) = admitChecks (r .model) b
+refusals r (change (admitBatch bs n t)) = batchChecks bs n
 refusals r (change (removeContainer c)) = slotChecks containerSlots (r .model .containers) c
 refusals r (change (removePolicy q)) = slotChecks policySlots (r .model .policies) q
 refusals r (change rebuild) = []

@@ -1,3 +1,4 @@
 -- Laws of `policy_findings`.
 mod PolicyKinds
 mod PolicyRows
+mod CandidateLaws

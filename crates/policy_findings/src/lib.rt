@@ -7,8 +7,22 @@ ghost use Rattle.bitrow.specs.Set.{meet, hasSome};
 ghost use Rattle.model.specs.Findings.{needless};
 ghost use Rattle.formed.specs.Registry.{wellFormed};
 ghost use Rattle.container_findings.specs.Rows.{shownAt, policiesStand};
-ghost use Rattle.policy_pairs.specs.Comparisons.{comparison, Compared};
+ghost use Rattle.policy_pairs.specs.Comparisons.{comparison, AtPolicy, Compared};
+ghost use Rattle.policy_findings.specs.Candidates.{Candidates};
 use bitrow::Found;
+
+// The policies that a is compared with: those of its direction, and for kind 6 above it.
+fn candidates(memory: &[u64], policies: [u64; 4], kind: usize, a: usize) -> [u64; 4]
+    requires { ⌜ AtPolicy (now memory) a × (bitAt policies ≡ policiesStand (now memory)) ⌝ }
+    ensures { λ r. ⌜ Candidates (now (memory .entry)) kind a (bitAt r) ⌝ }
+{
+    let direction = memory[store::POLICIES + store::POLICY_WORDS * a];
+    let some = row_sets::both(policies, reach::of_direction(memory, direction));
+    if kind == 5 {
+        return some;
+    }
+    row_sets::both(some, row_sets::at_least(a + 1))
+}
 
 // 5. Shadow: the policies in whose shadow a lies. 6. Conflict: the policies above a that it conflicts with.
 fn compare_all(
@@ -19,7 +33,7 @@ fn compare_all(
     who: [u64; 4],
     whom: [u64; 4],
 ) -> [u64; 4]
-    requires { ⌜ Compared (now memory) who whom a × (bitAt policies ≡ policiesStand (now memory)) ⌝ }
+    requires { ⌜ Compared (now memory) who whom a × Candidates (now memory) kind a (bitAt policies) ⌝ }
     ensures { λ r. ⌜ bitAt r ≡ meet (bitAt policies) (comparison kind (now (memory .entry)) a) ⌝ }
 {
     let mut chosen = row_sets::none();
@@ -67,7 +81,8 @@ pub fn policy_row(memory: &[u64], policies: [u64; 4], kind: usize, a: usize) -> 
         return row_sets::none();
     }
     if kind < 7 {
-        return compare_all(memory, policies, kind, a, who, whom);
+        let some = candidates(memory, policies, kind, a);
+        return compare_all(memory, some, kind, a, who, whom);
     }
     row_sets::none()
 }

@@ -1,6 +1,6 @@
 -- The tests of two policies as the code makes them are those of the model's definitions.
 use mathlib.Core.Path.{_≡_, refl, sym, ap, ap₂, _∙_}
-use mathlib.Core.Bool.{Bool, true, false, not, _&&_, _||_, true≢false}
+use mathlib.Core.Bool.{Bool, true, false, not, _&&_, _||_, true≢false, and-false}
 use mathlib.Core.List.{List}
 use Prim.Native.Nat.{ℕ}
 use lib.Dec.{eqb, ltb}
@@ -53,6 +53,10 @@ module _ (m who whom : List ℕ) (a b : ℕ) (c : Compared m who whom a) (x y : 
       (ap₂ _&&_ (ep ∙ ap₂ part (c .selected) ex) (eq ∙ ap₂ part (c .allowed) ey))
       (ap₂ _&&_ (er ∙ ap₂ part ex (c .selected)) (es ∙ ap₂ part ey (c .allowed))))
       ∙ sym (shadow-is m (c .formed) a b own-selected own-allowed)
+
+  -- a selects someone whom b does not
+  pub shadow-apart : {p : Bool} → p ≡ part (bitAt who) (bitAt x) → p ≡ false → false ≡ shadow (modelIn m) (bitsIn m) a b
+  shadow-apart ep e = sym (rw (and-false oneWay) (and-false (not (eqb a b)))) ∙ shadow-test {p = false} (sym e ∙ ep) refl refl refl
 
   pub conflict-test : {p q r : Bool} → p ≡ not (hasSome (meet (bitAt who) (bitAt x))) → q ≡ not (hasSome (bitAt y)) → r ≡ not (hasSome (meet (bitAt whom) (bitAt y)))
       → (ltb a b && (oneWay && (not p && (not q && r)))) ≡ conflict (modelIn m) (bitsIn m) a b

@@ -52,7 +52,7 @@ same-number x y p q r s = go (ℕ-discrete x 1) (ℕ-discrete y 1)
 
 module _ (m : List ℕ) (ok : EntriesFormed m) where
   -- the direction word of a policy that stands is 1 or 2
-  direction-known : (q : ℕ) → policiesStand m q ≡ true → (0 < wordAt m (policyStart q)) × (wordAt m (policyStart q) ≤ 2)
+  pub direction-known : (q : ℕ) → policiesStand m q ≡ true → (0 < wordAt m (policyStart q)) × (wordAt m (policyStart q) ≤ 2)
   direction-known q h =
       let w = both (ltb q 128) (not (eqb (wordAt m (policyStart q)) 0)) (sym (policy-stands m q) ∙ h) .1 in
       let n = eqb-false (wordAt m (policyStart q)) 0 (not-true (eqb (wordAt m (policyStart q)) 0) w) in

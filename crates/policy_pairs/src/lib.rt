@@ -21,7 +21,10 @@ fn shadow_at(memory: &[u64], a: usize, b: usize, who: [u64; 4], whom: [u64; 4]) 
     let one_way = one_direction(memory, a, b);
     let other_who = stored::stored_selected(memory, b);
     let other_whom = stored::stored_allowed(memory, b);
-    let under = row_tests::part_of(who, other_who) & row_tests::part_of(whom, other_whom);
+    if !row_tests::part_of(who, other_who) {
+        return false;
+    }
+    let under = row_tests::part_of(whom, other_whom);
     let over = row_tests::part_of(other_who, who) & row_tests::part_of(other_whom, whom);
     (a != b) & (one_way & (under & (!over | (b < a))))
 }

@@ -3,13 +3,15 @@ use mathlib.Core.Path.{_≡_, refl, sym, ap, ap₂, _∙_, fun-ext}
 use mathlib.Core.Bool.{Bool, not, _&&_, _||_, and-assoc, and-comm, or-assoc, or-false}
 use mathlib.Core.List.{List, [], _∷_}
 use mathlib.Core.Option.{Option, none, some as just}
-use Prim.Native.Nat.{ℕ, zero, suc, _<_}
+use Prim.Native.Nat.{ℕ, zero, suc, _+_, _<_}
+use native.Mathlib.Nat.{add-zero, zero-add}
+use native.Mathlib.Omega.{arith}
 use lib.ListN.{length}
 use Rattle.bitrow.specs.Set.{some}
 use Rattle.bitrow.proofs.Sets.{point}
 use Rattle.bitrow.proofs.Tests.{some-cong}
 use Rattle.block.specs.Entry.{Container, Direction, ingress, egress}
-use Rattle.model.specs.Table.{Table, any, on, at, stands}
+use Rattle.model.specs.Table.{Table, any, on, at, stands, standing, standingFrom}
 use Rattle.model.specs.Rules.{sameDirection, selects, allows, someSelects, someAllows}
 use Rattle.model.specs.Rules as rules
 use Rattle.model.specs.Model.{policySlots, Model, matrixBit, selectedBit, allowedBit}
@@ -28,6 +30,21 @@ any-slot : {A : Type 0} (f : Option A → Bool) (l : Table A) → any f l ≡ so
 unfolding some
 any-slot f [] = refl
 any-slot f (x ∷ l) = ap (λ (b : Bool). f x || b) (any-slot f l) ∙ sym (some-front (λ q. f (at (x ∷ l) q)) (length l))
+
+shifted : {A : Type 0} (f : ℕ → Bool) (i : ℕ) (l : Table A)
+    → some (λ q. stands l q && f (suc i + q)) (length l) ≡ some (λ q. stands l q && f (i + suc q)) (length l)
+shifted f i l = some-cong _ _ (length l) (λ q h. let e : suc i + q ≡ i + suc q = omega arith in ap (λ (k : ℕ). stands l q && f k) e)
+
+-- the same of the standing slots alone, by their numbers; the first slot of l is number i
+any-from : {A : Type 0} (f : ℕ → Bool) (i : ℕ) (l : Table A) → any f (standingFrom i l) ≡ some (λ q. stands l q && f (i + q)) (length l)
+unfolding some
+any-from f i [] = refl
+any-from f i (none ∷ l) = any-from f (suc i) l ∙ shifted f i l ∙ sym (some-front (λ q. stands (none ∷ l) q && f (i + q)) (length l))
+any-from f i (just x ∷ l) =
+    ap₂ _||_ (ap f (sym (add-zero i))) (any-from f (suc i) l ∙ shifted f i l) ∙ sym (some-front (λ q. stands (just x ∷ l) q && f (i + q)) (length l))
+
+pub any-standing : {A : Type 0} (f : ℕ → Bool) (l : Table A) → any f (standing l) ≡ some (λ q. stands l q && f q) (length l)
+any-standing f l = any-from f 0 l ∙ some-cong _ _ (length l) (λ q h. ap (λ (k : ℕ). stands l q && f k) (zero-add q))
 
 on-and : {A : Type 0} (f g : A → Bool) (o : Option A) → on (λ x. f x && g x) o ≡ (on f o && on g o)
 on-and f g none = refl

@@ -11,7 +11,7 @@ ghost use Rattle.reach.specs.Sides.{directionSet, SidesOf, Exchanged};
 use rules::Sides;
 
 // The standing policies of a direction, 1 ingress, 2 egress.
-fn of_direction(memory: &[u64], direction: u64) -> [u64; 4]
+pub fn of_direction(memory: &[u64], direction: u64) -> [u64; 4]
     requires { ⌜ EntriesFormed (now memory) × (1 ≤ direction) × (direction ≤ 2) ⌝ }
     ensures { λ r. ⌜ bitAt r ≡ directionSet (modelIn (now (memory .entry))) (directionOf direction) ⌝ }
 {

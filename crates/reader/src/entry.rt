@@ -12,16 +12,18 @@ use block::numbers;
 pub fn test_entry(settings: Settings, block: &[u8]) -> Tested
     ensures { λ r. ⌜ r ≡ firstRefusal (entryChecks (settingsOf settings) (now (block .entry))) ⌝ }
 {
-    let framed = layouts::frame_test(block);
-    if let Tested::Refused(by) = framed {
+    let framed = layouts::frame(block);
+    let tested = framed.tested;
+    let end = framed.end;
+    if let Tested::Refused(by) = tested {
         return Tested::Refused(by);
     }
     let kind = block[0];
     if kind == 67 {
-        return entry_layouts::container_test(block);
+        return entry_layouts::container_test(block, end);
     }
     if kind == 80 {
-        return entry_layouts::policy_test(block);
+        return entry_layouts::policy_test(block, end);
     }
     Tested::Refused(Refusal {
         number: numbers::KIND,

@@ -4,7 +4,7 @@
 ghost use mathlib.Core.Path.{_≡_};
 ghost use lib.ListN.{length};
 ghost use Rattle.buffer.specs.Buffer.{overwritten};
-ghost use Rattle.model.specs.Calls.{openWith, change, admit, removeContainer, removePolicy, rebuild, ask, askReaches, askUser, nextFinding, listFindings, counts, audit, write, written};
+ghost use Rattle.model.specs.Calls.{openWith, change, admit, admitBatch, removeContainer, removePolicy, rebuild, ask, askReaches, askUser, nextFinding, listFindings, counts, audit, write, written, tallyLeft};
 ghost use Rattle.store.specs.Layout.{memoryWords};
 ghost use Rattle.steps.specs.MemoryStep.{memoryStep};
 ghost use Rattle.codes.specs.Codes.{codedStep};
@@ -18,6 +18,7 @@ use registry::FindingsPut;
 use registry::NextFinding;
 use registry::Outcome;
 use registry::Reply;
+use registry::Tally;
 
 #[no_mangle]
 pub extern "C" fn bihokura_words() -> u64
@@ -47,6 +48,55 @@ pub extern "C" fn bihokura_admit(memory: &mut [u64], block: &[u8]) -> u64
         Admitted::Container(slot) => slot.0 as u64,
         Admitted::Policy(slot) => slot.0 as u64,
     }
+}
+
+// The answer to a batch as one number, and the tally after it.
+pub struct CodedBatch {
+    pub number: u64,
+    pub tally: Tally,
+}
+
+// The batch, with the tally by value.
+pub fn batch_coded(
+    memory: &mut [u64],
+    blocks: &[u8],
+    answers: &mut [u16],
+    tally: Tally,
+) -> CodedBatch
+    ensures { λ r. ⌜ (now (memory .exit), r .number) ≡ codedStep (now (memory .entry)) (change (admitBatch (now (blocks .entry)) (length (now (answers .entry))) tally)) ⌝ }
+    ensures { λ r. ⌜ now (answers .exit) ≡ overwritten (now (answers .entry)) (written (memoryStep (now (memory .entry)) (change (admitBatch (now (blocks .entry)) (length (now (answers .entry))) tally)) .1)) ⌝ }
+    ensures { λ r. ⌜ r .tally ≡ tallyLeft tally (memoryStep (now (memory .entry)) (change (admitBatch (now (blocks .entry)) (length (now (answers .entry))) tally)) .1) ⌝ }
+{
+    let done = registry::admit_batch(memory, blocks, answers, tally);
+    let after = done.tally;
+    let outcome = done.outcome;
+    match outcome {
+        Outcome::Refused(number) => CodedBatch {
+            number: codes::refused(number),
+            tally: after,
+        },
+        Outcome::Done => CodedBatch {
+            number: 0,
+            tally: after,
+        },
+    }
+}
+
+// The same, with the tally lent.
+#[no_mangle]
+pub extern "C" fn bihokura_admit_batch(
+    memory: &mut [u64],
+    blocks: &[u8],
+    answers: &mut [u16],
+    tally: &mut Tally,
+) -> u64
+    ensures { λ r. ⌜ (now (memory .exit), r) ≡ codedStep (now (memory .entry)) (change (admitBatch (now (blocks .entry)) (length (now (answers .entry))) (now (tally .entry)))) ⌝ }
+    ensures { λ r. ⌜ now (answers .exit) ≡ overwritten (now (answers .entry)) (written (memoryStep (now (memory .entry)) (change (admitBatch (now (blocks .entry)) (length (now (answers .entry))) (now (tally .entry)))) .1)) ⌝ }
+    ensures { λ r. ⌜ now (tally .exit) ≡ tallyLeft (now (tally .entry)) (memoryStep (now (memory .entry)) (change (admitBatch (now (blocks .entry)) (length (now (answers .entry))) (now (tally .entry)))) .1) ⌝ }
+{
+    let done = batch_coded(memory, blocks, answers, *tally);
+    *tally = done.tally;
+    done.number
 }
 
 #[no_mangle]

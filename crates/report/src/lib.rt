@@ -5,7 +5,7 @@ ghost use mathlib.Core.Bool.{false};
 ghost use Prim.Native.Nat.{_≤_, _<_};
 ghost use lib.ListN.{length};
 ghost use Rattle.sheets.specs.Left.{Does};
-ghost use Rattle.sheets.specs.Pieces.{takeStep};
+ghost use Rattle.sheets.specs.Pieces.{takeOne, takeStep};
 ghost use Rattle.sheets.specs.Step.{startState, finishedIn, reportStep, startedIn, ahead, Fed};
 pub use sheets::State;
 pub use sheets::Stepped;
@@ -29,8 +29,8 @@ pub fn finished(state: State) -> bool
     }
 }
 
-// A piece of input after n blocks and f bytes of the next.
-fn take(
+// One block at most of a piece of input, after n blocks and f bytes of the next.
+fn take_one(
     memory: &mut [u64],
     block: &mut [u8],
     piece: &[u8],
@@ -40,7 +40,7 @@ fn take(
     f: usize,
 ) -> Stepped
     requires { ⌜ (length (now block) ≡ 512) × (f < 512) × (128 ≤ length (now out)) ⌝ }
-    ensures { λ r. ⌜ Does (takeStep (now (memory .entry)) (now (block .entry)) (now (piece .entry)) ended n f) (now (memory .exit)) (now (block .exit)) (now (out .entry)) (now (out .exit)) r ⌝ }
+    ensures { λ r. ⌜ Does (takeOne (now (memory .entry)) (now (block .entry)) (now (piece .entry)) ended n f) (now (memory .exit)) (now (block .exit)) (now (out .entry)) (now (out .exit)) r ⌝ }
     ensures { λ r. ⌜ r .used ≤ length (now (piece .entry)) ⌝ }
 {
     if n == u64::MAX {
@@ -78,8 +78,35 @@ fn take(
     }
 }
 
+// A piece of input after n blocks and f bytes of the next: whole blocks at once, as far as their lines find room, or one at most.
+fn take(
+    memory: &mut [u64],
+    block: &mut [u8],
+    piece: &[u8],
+    ended: bool,
+    out: &mut [u8],
+    n: u64,
+    f: usize,
+) -> Stepped
+    requires { ⌜ (length (now block) ≡ 512) × (f < 512) × (128 ≤ length (now out)) ⌝ }
+    ensures { λ r. ⌜ Does (takeStep (now (memory .entry)) (now (block .entry)) (now (piece .entry)) ended (length (now (out .entry))) n f) (now (memory .exit)) (now (block .exit)) (now (out .entry)) (now (out .exit)) r ⌝ }
+    ensures { λ r. ⌜ r .used ≤ length (now (piece .entry)) ⌝ }
+{
+    let blocks = cuts::whole_blocks(out.len(), piece.len(), n, f);
+    if blocks == 0 {
+        return take_one(memory, block, piece, ended, out, n, f);
+    }
+    let used = 512 * blocks;
+    let put = intake::take_blocks(memory, &piece[..used], out, n);
+    Stepped {
+        state: State::Taking(n + blocks as u64, 0),
+        used,
+        put,
+    }
+}
+
 // Takes a piece of the input, or a part of it, or puts some text. `ended` says that the input ends with this piece; what was not used
-// of it is to be lent again. A step takes one block at most, so that a refused block's line is put before the next is looked at.
+// of it is to be lent again. Of whole blocks a step takes all, at most 128, whose lines find room, and has put the line of each that was refused.
 pub fn step(
     memory: &mut [u64],
     block: &mut [u8],

@@ -1,16 +1,28 @@
 -- Bytes as blocks, however they came.
 use mathlib.Core.Path.{_≡_, refl, sym, ap, ap₂, _∙_}
 use mathlib.Core.List.{List, [], _∷_, _++_, append-nil}
-use Prim.Native.Nat.{ℕ, _+_, _≤_, _<_}
+use Prim.Native.Nat.{ℕ, zero, suc, _+_, _*_, _≤_, _<_}
 use native.Mathlib.Omega.{arith}
 use lib.ListN.{length, take, drop, length-drop, length-append}
 use lib.Seq.{take-all, take-append-le, drop-append-le, take-append-add, drop-append-add}
 use Rattle.block.specs.Cut.{blocksOf}
-use Rattle.block.proofs.Cut.{blocks-more}
+use Rattle.block.proofs.Cut.{blocks-more, blocks-end}
 
 pub no-bytes : {A : Type 0} (l : List A) → length l ≡ 0 → l ≡ []
 no-bytes [] e = refl
 no-bytes (x ∷ l) e = absurd (omega arith)
+
+-- j whole blocks, and those of what comes after them
+pub blocks-several : (j : ℕ) (s l : List ℕ) → length s ≡ 512 * j → blocksOf (s ++ l) ≡ blocksOf s ++ blocksOf l
+blocks-several zero s l e =
+    let z = no-bytes s (omega (arith, e)) in
+    ap (λ (x : List ℕ). blocksOf (x ++ l)) z ∙ ap (λ (x : List (List ℕ)). x ++ blocksOf l) (sym (ap blocksOf z ∙ blocks-end))
+blocks-several (suc j) s l e =
+    let h : 512 ≤ length s = omega (arith, e) in
+    blocks-more (s ++ l) (let a = length-append s l in omega (arith, a, h))
+    ∙ ap₂ (λ (x y : List ℕ). x ∷ blocksOf y) (take-append-le 512 s l h) (drop-append-le 512 s l h)
+    ∙ ap (λ (x : List (List ℕ)). take 512 s ∷ x) (blocks-several j (drop 512 s) l (let d = length-drop 512 s in omega (arith, d, e)))
+    ∙ ap (λ (x : List (List ℕ)). x ++ blocksOf l) (sym (blocks-more s (omega (arith, h))))
 
 -- the first n bytes of a piece p complete a block that was started with s; q comes after the piece
 module _ (s p q : List ℕ) (n : ℕ) (h : n ≤ length p) where

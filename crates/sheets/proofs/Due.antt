@@ -1,8 +1,8 @@
 -- What is still to come of the text: a piece of the input puts the first of it, and the rest is still to come.
-use mathlib.Core.Path.{_≡_, refl, sym, ap, _∙_, subst}
+use mathlib.Core.Path.{_≡_, refl, sym, ap, ap₂, _∙_, subst}
 use mathlib.Core.Bool.{Bool, true, false, false≢true, cond, not, _&&_}
 use mathlib.Core.List.{List, [], _∷_, _++_, append-assoc, append-nil}
-use Prim.Native.Nat.{ℕ, _+_, _-_, _/_, _≤_, _<_}
+use Prim.Native.Nat.{ℕ, suc, _+_, _*_, _-_, _/_, _≤_, _<_}
 use native.Mathlib.Omega.{arith}
 use lib.Dec.{eqb, ltb}
 use lib.ListN.{length, take, drop, length-drop, length-append, take-append-drop}
@@ -28,14 +28,14 @@ use Rattle.findings.proofs.NextFinding.{nextIn}
 use Rattle.sheets.specs.declared.State.{State}
 use Rattle.sheets.specs.declared.State.the-variants.{Taking, Counting, Listing, Finished}
 use Rattle.sheets.specs.Left.{Left, left}
-use Rattle.sheets.specs.Blocks.{taken, opens, admits, endOf}
-use Rattle.sheets.specs.Pieces.{withBlock, share, waits, takeWith, takeStep}
-use Rattle.sheets.proofs.PieceLaws.{take-on, with-more, with-end, with-block}
+use Rattle.sheets.specs.Blocks.{taken, opens, admits, admitsAll, endOf}
+use Rattle.sheets.specs.Pieces.{withBlock, share, waits, takeWith, takeOne, wholeBlocks, takeSeveral, takeStep}
+use Rattle.sheets.proofs.PieceLaws.{take-on, with-more, with-end, with-block, Several, whole-several, take-one, take-several}
 use Rattle.text.specs.Lines.{refusedLine, refusedBy, findingLines}
 use Rattle.block.specs.Cut.{blocksOf}
-use Rattle.block.proofs.Cut.{blocks-end}
+use Rattle.block.proofs.Cut.{blocks-end, blocks-count}
 use Rattle.sheets.specs.Sheet.{closing, linesFrom, sheetFrom, sheetOf}
-use Rattle.sheets.proofs.Blocks.{no-bytes, blocks-whole, blocks-short}
+use Rattle.sheets.proofs.Blocks.{no-bytes, blocks-several, blocks-whole, blocks-short}
 use Rattle.sheets.proofs.Kept.{Keeps, keeps-after, keeps-answer, keeps-open}
 
 -- after n blocks, with the bytes l of the next ones
@@ -116,6 +116,32 @@ module _ (k b i : List ℕ) (whole : length k ≡ 512) where
   block-taken m t n c l (after-some z v g q) w e =
       subst (λ (u : Bool). Onward t (withBlock k c (cond u (opens (memoryStep m (openWith b))) (admits n (memoryStep m (change (admit b)))))) i) (sym (ne-eqb n 0 z))
       (block-admit m t n c v g w (q ∙ ap (linesFrom (n + 1) v) e))
+
+-- ---- several blocks
+
+-- after the blocks l were admitted, where others come after them
+record AfterAll (m : List ℕ) (n : ℕ) (w : Model) (l others : List (List ℕ)) : Type 0 where
+  pub after : Model
+  pub keeps : Keeps (admitsAll m n l .0) after
+  pub text : linesFrom (n + 1) w (l ++ others) ≡ admitsAll m n l .1 ++ linesFrom (n + length l + 1) after others
+
+admits-all : (l others : List (List ℕ)) (m : List ℕ) (n : ℕ) (w : Model) → Keeps m w → AfterAll m n w l others
+unfolding admitsAll linesFrom
+admits-all [] others m n w g = let i : n + 1 ≡ n + 0 + 1 = omega arith in record { after = w; keeps = g; text = ap (λ (x : ℕ). linesFrom x w others) i }
+admits-all (b ∷ l) others m n w g =
+    let call = change (admit b) in
+    let r = memoryStep m call in
+    let x = admits-all l others (r .0) (n + 1) (modelStep w call .0) (keeps-after m w g call) in
+    let t = admitsAll (r .0) (n + 1) l .1 in
+    let i : n + 1 + length l + 1 ≡ n + suc (length l) + 1 = omega arith in
+    record {
+      after = x .after;
+      keeps = x .keeps;
+      text =
+          ap₂ (λ (a : Answer) (u : List ℕ). refusedBy (n + 1) a ++ u) (sym (keeps-answer m w g call)) (x .text)
+          ∙ sym (append-assoc (refusedBy (n + 1) (r .1)) t (linesFrom (n + 1 + length l + 1) (x .after) others))
+          ∙ ap (λ (y : ℕ). (refusedBy (n + 1) (r .1) ++ t) ++ linesFrom y (x .after) others) i;
+    }
 
 -- ---- a piece
 
@@ -200,8 +226,8 @@ module _ (m k p q t : List ℕ) (ended : Bool) (n f : ℕ) (whole : length k ≡
   pub not-last : n ≡ 18446744073709551615 → ⊥
   not-last e = omega (arith, e, g .few)
 
-  pub piece-onward : let x = takeStep m k p ended n f in Onward t x (drop (x .used) p ++ q)
-  piece-onward =
+  one-onward : let x = takeOne m k p ended n f in Onward t x (drop (x .used) p ++ q)
+  one-onward =
       subst (λ (x : Left). Onward t x (drop (x .used) p ++ q)) (sym (take-on m k p ended n f not-last c refl filledBlock refl))
       (pick (waits (f + c) ended) refl (eqb (f + c) 0) refl)
     where
@@ -209,3 +235,51 @@ module _ (m k p q t : List ℕ) (ended : Bool) (n f : ℕ) (whole : length k ≡
       pick true e v d = subst (λ (x : Left). Onward t x (drop (x .used) p ++ q)) (sym (with-more m filledBlock ended n (f + c) c e)) (piece-waits e)
       pick false e true d = subst (λ (x : Left). Onward t x (drop (x .used) p ++ q)) (sym (with-end m filledBlock ended n (f + c) c e (eqb-true (f + c) 0 d))) (piece-end e (eqb-true (f + c) 0 d))
       pick false e false d = subst (λ (x : Left). Onward t x (drop (x .used) p ++ q)) (sym (with-block m filledBlock ended n (f + c) c e (eqb-false (f + c) 0 d))) (piece-block e (eqb-false (f + c) 0 d))
+
+  pub piece-several : (j : ℕ) → Several (length p) n f j → Onward t (takeSeveral m k p n j) (drop (512 * j) p ++ q)
+  piece-several j s = finish (g .after)
+    where
+      bytes : List ℕ
+      bytes = take (512 * j) p
+
+      others : List ℕ
+      others = drop (512 * j) p ++ q
+
+      bytes-size : length bytes ≡ 512 * j
+      bytes-size = length-take-le (512 * j) p (s .within)
+
+      same : take f k ++ (p ++ q) ≡ bytes ++ others
+      same =
+          ap (λ (i : ℕ). take i k ++ (p ++ q)) (s .begins) ∙ ap (λ (x : List ℕ). x ++ q) (sym (take-append-drop (512 * j) p))
+          ∙ append-assoc bytes (drop (512 * j) p) q
+
+      few : Few (n + j) 0 others
+      few =
+          let a = length-append (drop (512 * j) p) q in
+          let d = length-drop (512 * j) p in
+          omega (arith, a, d, g .few, s .begins, s .within, piece-all)
+
+      finish : AfterBlocks n m (take f k ++ (p ++ q)) t → Onward t (takeSeveral m k p n j) others
+      finish (before-first y h e) = absurd (s .later y)
+      finish (after-some y v h e) =
+          let x = admits-all (blocksOf bytes) (blocksOf others) m n v h in
+          record {
+            rest = linesFrom (n + j + 1) (x .after) (blocksOf others);
+            text =
+                e ∙ ap (λ (l : List ℕ). linesFrom (n + 1) v (blocksOf l)) same ∙ ap (linesFrom (n + 1) v) (blocks-several j bytes others bytes-size) ∙ x .text
+                ∙ ap (λ (i : ℕ). admitsAll m n (blocksOf bytes) .1 ++ linesFrom (n + i + 1) (x .after) (blocksOf others)) (blocks-count j bytes bytes-size);
+            size = whole;
+            due = record { part = omega arith; few = few; after = after-some (λ z. y (omega (arith, z))) (x .after) (x .keeps) refl };
+          }
+
+  pub piece-onward : (room : ℕ) → let x = takeStep m k p ended room n f in Onward t x (drop (x .used) p ++ q)
+  piece-onward room = pick (eqb j 0) refl
+    where
+      j : ℕ
+      j = wholeBlocks room (length p) n f
+
+      pick : (u : Bool) → eqb j 0 ≡ u → let x = takeStep m k p ended room n f in Onward t x (drop (x .used) p ++ q)
+      pick true e = subst (λ (x : Left). Onward t x (drop (x .used) p ++ q)) (sym (take-one m k p ended room n f j refl (eqb-true j 0 e))) one-onward
+      pick false e =
+          let z = eqb-false j 0 e in
+          subst (λ (x : Left). Onward t x (drop (x .used) p ++ q)) (sym (take-several m k p ended room n f j refl z)) (piece-several j (whole-several room (length p) n f z))

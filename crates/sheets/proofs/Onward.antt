@@ -121,7 +121,7 @@ list-onward m k t i room c whole g =
 pub step-onward : (m k p q t : List ℕ) (ended : Bool) (room : ℕ) (s : State) → length k ≡ 512 → (ended ≡ true → q ≡ []) → Due s m k (p ++ q) t
     → let x = reportStep m k p ended room s in Onward t x (drop (x .used) p ++ q)
 unfolding reportStep
-step-onward m k p q t ended room (Taking n f) whole fin d = piece-onward m k p q t ended n f whole fin d
+step-onward m k p q t ended room (Taking n f) whole fin d = piece-onward m k p q t ended n f whole fin d room
 step-onward m k p q t ended room Counting whole fin d = count-onward m k t (p ++ q) whole d
 step-onward m k p q t ended room (Listing c) whole fin d = list-onward m k t (p ++ q) room c whole d
 step-onward m k p q t ended room Finished whole fin d = record { rest = []; text = d; size = whole; due = refl }

@@ -1,19 +1,19 @@
 -- However the input is cut and whatever the buffers hold, the text of all steps, joined, is the sheet.
 use mathlib.Core.Path.{_≡_, refl, sym, ap, _∙_, subst}
 use mathlib.Core.Bool.{Bool, true, false, false≢true, cond, not, _&&_}
-use mathlib.Core.List.{List, [], _++_}
+use mathlib.Core.List.{List, [], _∷_, _++_, append-nil}
 use mathlib.Core.Option.{Option, none, some}
 use mathlib.Core.Logic.{_⊎_, inl, inr}
 use Prim.Native.Nat.{ℕ, zero, suc, _+_, _-_, _*_, _≤_, _<_, min}
 use native.Mathlib.Omega.{arith}
 use lib.Dec.{eqb, ltb}
-use lib.ListN.{length, take, drop, length-append}
-use lib.Seq.{paste, take-paste}
-use borrow.Author.Tests.{le-ltb, eqb-true, eqb-false, not-true}
+use lib.ListN.{length, take, drop, length-append, length-drop}
+use lib.Seq.{paste, take-paste, length-paste-head}
+use borrow.Author.Tests.{le-ltb, ne-eqb, eqb-true, eqb-false, not-true}
 use Rattle.model.specs.declared.Finding.{Finding}
 use Rattle.model.specs.Findings.{Place, start, findings}
 use Rattle.model.specs.Model.{computedBits}
-use Rattle.model.specs.Calls.{Answer, openWith, change, admit, ask, counts, listFindings, said}
+use Rattle.model.specs.Calls.{Call, Answer, openWith, change, admit, ask, counts, listFindings, said}
 use Rattle.model.specs.ModelStep.{modelAnswer, modelStep}
 use Rattle.model.proofs.Next.{Leads, findings-lead}
 use Rattle.model.proofs.Lists.{both}
@@ -25,19 +25,20 @@ use Rattle.findings.proofs.NextFinding.{nextIn}
 use Rattle.sheets.specs.declared.State.{State}
 use Rattle.sheets.specs.declared.State.the-variants.{Taking, Counting, Listing, Finished}
 use Rattle.sheets.specs.Left.{Left, left}
-use Rattle.sheets.specs.Blocks.{taken, endOf}
-use Rattle.sheets.specs.Pieces.{withBlock, share, waits, takeWith, takeStep}
+use Rattle.sheets.specs.Blocks.{taken, admitsAll, endOf}
+use Rattle.sheets.specs.Pieces.{withBlock, share, waits, takeWith, takeOne, wholeBlocks, takeSeveral, takeStep}
 use Rattle.sheets.proofs.BlockLaws.{oneOf}
-use Rattle.sheets.proofs.PieceLaws.{take-on, with-more, with-end, with-block}
+use Rattle.sheets.proofs.PieceLaws.{take-on, with-more, with-end, with-block, Several, whole-several, take-one, take-several}
 use Rattle.sheets.specs.Closing.{counting, countStep, linesIn, listing, listStep}
 use Rattle.text.specs.Lines.{refusedBy, findingLines}
 use Rattle.block.specs.Cut.{blocksOf}
+use Rattle.block.proofs.Cut.{blocks-end, blocks-first}
 use Rattle.sheets.specs.Sheet.{closing, sheetOf, sheet}
 use Rattle.sheets.specs.Step.{told, reportStep, startState, finishedIn}
-use Rattle.sheets.specs.Runs.{ReportRun, ends, goes, Lent, lentStep, Follows, over, stepped, callBy, TextIsSheet, EveryRunIsSheet, BlockAtOnce}
+use Rattle.sheets.specs.Runs.{ReportRun, ends, goes, Lent, lentStep, Follows, over, stepped, callBy, linesBy, TextIsSheet, EveryRunIsSheet, AtOnce, BlockAtOnce}
 use Rattle.sheets.proofs.StepLaws.{lines-some}
 use Rattle.sheets.proofs.Kept.{keeps-answer, keeps-formed, keeps-next}
-use Rattle.sheets.proofs.Due.{before-first, DueCounts, DueBlocks, Due, atEnd, piece-left, piece-waits, piece-end, piece-block, not-last}
+use Rattle.sheets.proofs.Due.{before-first, DueCounts, DueBlocks, Due, atEnd, piece-left, piece-waits, piece-end, piece-block, piece-several, not-last}
 use Rattle.sheets.proofs.Onward.{Lines, DueLines, lines-listed, lines-due, step-onward}
 
 run-due : (m k : List ℕ) (s : State) (input text t : List ℕ) → length k ≡ 512 → Due s m k input t → ReportRun m k s input text → text ≡ t
@@ -151,7 +152,7 @@ module _ (lend : ℕ → (input : List ℕ) → Lent input) where
   taking-ends : (a j : ℕ) (m k i t : List ℕ) (n f : ℕ) → length k ≡ 512 → DueBlocks n f m k i t → inputLeft f i < a → Follows lend j m k (Taking n f) i t
   unfolding reportStep
   taking-ends zero j m k i t n f whole g w = absurd (omega arith)
-  taking-ends (suc a) j m k i t n f whole g w = pick (waits e fin) refl (eqb e 0) refl (taking-ends a (suc j))
+  taking-ends (suc a) j m k i t n f whole g w = choose (eqb blocks 0) refl (taking-ends a (suc j))
     where
       l : Lent i
       l = lend j i
@@ -161,6 +162,9 @@ module _ (lend : ℕ → (input : List ℕ) → Lent input) where
 
       d : DueBlocks n f m k (l .p ++ l .q) t
       d = subst (λ (x : List ℕ). DueBlocks n f m k x t) (l .split) g
+
+      blocks : ℕ
+      blocks = wholeBlocks (l .room) (length (l .p)) n f
 
       c : ℕ
       c = share f (length (l .p))
@@ -180,8 +184,10 @@ module _ (lend : ℕ → (input : List ℕ) → Lent input) where
       piece-most : c ≤ length i
       piece-most = let x = ap length (l .split) in let y = length-append (l .p) (l .q) in omega (arith, x, y)
 
-      begun : takeStep m k (l .p) fin n f ≡ takeWith m k2 fin n e c
-      begun = take-on m k (l .p) fin n f (not-last m k (l .p) (l .q) t fin n f whole (l .last) d) c refl k2 refl
+      begun : blocks ≡ 0 → takeStep m k (l .p) fin (l .room) n f ≡ takeWith m k2 fin n e c
+      begun alone =
+          take-one m k (l .p) fin (l .room) n f blocks refl alone
+          ∙ take-on m k (l .p) fin n f (not-last m k (l .p) (l .q) t fin n f whole (l .last) d) c refl k2 refl
 
       after-block : (s : State) → Begins s → (m' : List ℕ) (t' : List ℕ) → Below a (suc j) → inputLeft 0 i2 < a → Due s m' k2 i2 t' → length k2 ≡ 512 → Follows lend (suc j) m' k2 s i2 t'
       after-block (Taking n' f') b m' t' ih z y v = ih m' k2 i2 t' n' f' v y (omega (arith, z, b))
@@ -189,23 +195,34 @@ module _ (lend : ℕ → (input : List ℕ) → Lent input) where
       after-block (Listing x) b m' t' ih z y v = absurd b
       after-block Finished b m' t' ih z y v = over (suc j) m' k2 Finished i2 t' refl y
 
-      pick : (u : Bool) → waits e fin ≡ u → (v : Bool) → eqb e 0 ≡ v → Below a (suc j) → Follows lend j m k (Taking n f) i t
-      pick true z v o ih =
+      pick : blocks ≡ 0 → (u : Bool) → waits e fin ≡ u → (v : Bool) → eqb e 0 ≡ v → Below a (suc j) → Follows lend j m k (Taking n f) i t
+      pick alone true z v o ih =
           let x = piece-waits m k (l .p) (l .q) t fin n f whole (l .last) d z in
           let some-used : 0 < c = let h = l .fed (not-true fin (both (ltb e 512) (not fin) z .1)) in omega (arith, h, d .part) in
-          step-follows j m k (Taking n f) i t (x .rest) (left m k2 [] (Taking n e) c) (begun ∙ with-more m k2 fin n e c z) (x .text)
+          step-follows j m k (Taking n f) i t (x .rest) (left m k2 [] (Taking n e) c) (begun alone ∙ with-more m k2 fin n e c z) (x .text)
           (ih m k2 i2 (x .rest) n e (x .size) (x .due) (omega (arith, w, some-used, left-size, piece-most)))
-      pick false z true o ih =
+      pick alone false z true o ih =
           let y = eqb-true e 0 o in
           let x = piece-end m k (l .p) (l .q) t fin n f whole (l .last) d z y in
-          step-follows j m k (Taking n f) i t (x .rest) (left m k2 (endOf n .0) (endOf n .1) c) (begun ∙ with-end m k2 fin n e c z y) (x .text)
+          step-follows j m k (Taking n f) i t (x .rest) (left m k2 (endOf n .0) (endOf n .1) c) (begun alone ∙ with-end m k2 fin n e c z y) (x .text)
           (end-ends (endOf n .1) (at-end (eqb n 0)) (suc j) m k2 i2 (x .rest) (x .due))
-      pick false z false o ih =
+      pick alone false z false o ih =
           let y = eqb-false e 0 o in
-          let b = taken m (take e k2) n in
+          let r = taken m (take e k2) n in
           let x = piece-block m k (l .p) (l .q) t fin n f whole (l .last) d z y in
-          step-follows j m k (Taking n f) i t (x .rest) (withBlock k2 c b) (begun ∙ with-block m k2 fin n e c z y) (x .text)
-          (after-block (b .state) (begins-taken m (take e k2) n) (b .memory) (x .rest) ih (omega (arith, w, y, left-size, piece-most)) (x .due) (x .size))
+          step-follows j m k (Taking n f) i t (x .rest) (withBlock k2 c r) (begun alone ∙ with-block m k2 fin n e c z y) (x .text)
+          (after-block (r .state) (begins-taken m (take e k2) n) (r .memory) (x .rest) ih (omega (arith, w, y, left-size, piece-most)) (x .due) (x .size))
+
+      choose : (u : Bool) → eqb blocks 0 ≡ u → Below a (suc j) → Follows lend j m k (Taking n f) i t
+      choose true z ih = pick (eqb-true blocks 0 z) (waits e fin) refl (eqb e 0) refl ih
+      choose false z ih =
+          let y = eqb-false blocks 0 z in
+          let s = whole-several (l .room) (length (l .p)) n f y in
+          let x = piece-several m k (l .p) (l .q) t fin n f whole (l .last) d blocks s in
+          let falls : inputLeft 0 (drop (512 * blocks) (l .p) ++ l .q) < a
+          = let u = length-append (drop (512 * blocks) (l .p)) (l .q) in let v = length-drop (512 * blocks) (l .p) in let r = ap length (l .split) ∙ length-append (l .p) (l .q) in omega (arith, u, v, r, s .within, y, w) in
+          step-follows j m k (Taking n f) i t (x .rest) (takeSeveral m k (l .p) n blocks) (take-several m k (l .p) fin (l .room) n f blocks refl y) (x .text)
+          (ih (admitsAll m n (blocksOf (take (512 * blocks) (l .p))) .0) k (drop (512 * blocks) (l .p) ++ l .q) (x .rest) (n + blocks) 0 whole (x .due) falls)
 
 pub every-run-is-sheet : EveryRunIsSheet
 unfolding EveryRunIsSheet sheet
@@ -223,14 +240,60 @@ taken-text m b n = pick (eqb n 0) refl
     pick true e = ap (λ (i : ℕ). refusedBy (i + 1) (memoryStep m (openWith b) .1)) (sym (eqb-true n 0 e))
     pick false e = refl
 
+-- a block after n others is what `linesBy` begins with
+one-line : (m b : List ℕ) (n : ℕ) → length b ≡ 512 → taken m b n .text ≡ linesBy m n (blocksOf b)
+unfolding linesBy
+one-line m b n h =
+    let r = refusedBy (n + 1) (memoryStep m (callBy n b) .1) in
+    let e : blocksOf b ≡ b ∷ [] = ap blocksOf (sym (append-nil b)) ∙ blocks-first b [] h ∙ ap (λ (x : List (List ℕ)). b ∷ x) blocks-end in
+    taken-text m b n ∙ sym (append-nil r) ∙ ap (linesBy m n) (sym e)
+
+-- where it is not the first, all are admitted
+admitted-lines : (l : List (List ℕ)) (m : List ℕ) (n : ℕ) → (n ≡ 0 → ⊥) → admitsAll m n l .1 ≡ linesBy m n l
+unfolding admitsAll linesBy
+admitted-lines [] m n z = refl
+admitted-lines (b ∷ l) m n z =
+    let c = change (admit b) in
+    let e : callBy n b ≡ c = ap (λ (u : Bool). cond u (openWith b) c) (ne-eqb n 0 z) in
+    ap (λ (x : List ℕ). refusedBy (n + 1) (memoryStep m c .1) ++ x) (admitted-lines l (memoryStep m c .0) (n + 1) (λ y. omega (arith, y)))
+    ∙ ap (λ (x : Call). refusedBy (n + 1) (memoryStep m x .1) ++ linesBy (memoryStep m x .0) (n + 1) l) (sym e)
+
+module _ (m k p : List ℕ) (ended : Bool) (room n f : ℕ) (whole : length k ≡ 512) (h : f < 512) (last : n ≡ 18446744073709551615 → ⊥) (enough : 512 ≤ f + length p) where
+  one-at-once : AtOnce m k p n f (takeOne m k p ended n f)
+  one-at-once =
+      let c = share f (length p) in
+      let l = paste k f p c in
+      let full : f + c ≡ 512 = omega arith in
+      let b : take (f + c) l ≡ take f k ++ take c p = take-paste k f p c (omega (arith, whole, h)) (omega arith) in
+      let size : length (take f k ++ take c p) ≡ 512 = length-paste-head k f p c (omega (arith, whole, h)) (omega arith) ∙ full in
+      let e = take-on m k p ended n f last c refl l refl
+      ∙ with-block m l ended n (f + c) c (ap (λ (u : Bool). u && not ended) (le-ltb (f + c) 512 (omega (arith, full)))) (λ z. omega (arith, z, full)) in
+      subst (AtOnce m k p n f) (sym e)
+      (record {
+        rest = omega (arith, full);
+        lent = omega arith;
+        whole = omega (arith, full);
+        text = ap (λ (x : List ℕ). taken m x n .text) b ∙ one-line m (take f k ++ take c p) n size;
+      })
+
+  several-at-once : (j : ℕ) → (j ≡ 0 → ⊥) → Several (length p) n f j → AtOnce m k p n f (takeSeveral m k p n j)
+  several-at-once j z s = record {
+    rest = omega (arith, z);
+    lent = s .within;
+    whole = omega (arith, s .begins);
+    text = admitted-lines (blocksOf (take (512 * j) p)) m n (s .later) ∙ ap (λ (i : ℕ). linesBy m n (blocksOf (take i k ++ take (512 * j) p))) (sym (s .begins));
+  }
+
 pub block-at-once : BlockAtOnce
 unfolding BlockAtOnce reportStep
-block-at-once m k p ended room n f whole h last enough =
-    let c = share f (length p) in
-    let l = paste k f p c in
-    let i : c ≡ 512 - f = omega arith in
-    let full : 512 ≤ f + c = omega arith in
-    let b : take (f + c) l ≡ take f k ++ take (512 - f) p = take-paste k f p c (omega (arith, whole, h)) (omega arith) ∙ ap (λ (j : ℕ). take f k ++ take j p) i in
-    let e = take-on m k p ended n f last c refl l refl
-    ∙ with-block m l ended n (f + c) c (ap (λ (u : Bool). u && not ended) (le-ltb (f + c) 512 full)) (λ z. omega (arith, z, full)) in
-    (ap (λ (x : Left). x .used) e ∙ i, ap (λ (x : Left). x .text) e ∙ taken-text m (take (f + c) l) n ∙ ap (λ (x : List ℕ). refusedBy (n + 1) (memoryStep m (callBy n x) .1)) b)
+block-at-once m k p ended room n f whole h last enough = pick (eqb j 0) refl
+  where
+    j : ℕ
+    j = wholeBlocks room (length p) n f
+
+    pick : (u : Bool) → eqb j 0 ≡ u → AtOnce m k p n f (takeStep m k p ended room n f)
+    pick true e = subst (AtOnce m k p n f) (sym (take-one m k p ended room n f j refl (eqb-true j 0 e))) (one-at-once m k p ended room n f whole h last enough)
+    pick false e =
+        let z = eqb-false j 0 e in
+        subst (AtOnce m k p n f) (sym (take-several m k p ended room n f j refl z))
+        (several-at-once m k p ended room n f whole h last enough j z (whole-several room (length p) n f z))

@@ -30,9 +30,9 @@ use Rattle.sheets.specs.declared.Stepped.{Stepped}
 use Rattle.sheets.specs.Told.{Tells}
 use Rattle.sheets.specs.Left.{Left, Does}
 use Rattle.sheets.specs.Blocks.{taken, endOf}
-use Rattle.sheets.specs.Pieces.{share, waits, takeWith, takeStep}
+use Rattle.sheets.specs.Pieces.{share, waits, takeWith, takeOne, wholeBlocks, takeStep}
 use Rattle.sheets.proofs.BlockLaws.{oneOf}
-use Rattle.sheets.proofs.PieceLaws.{does-as, take-last, take-on, with-more, with-end, with-block}
+use Rattle.sheets.proofs.PieceLaws.{does-as, take-last, take-on, with-more, with-end, with-block, Several, whole-several, take-one, take-several}
 use Rattle.sheets.specs.Closing.{afterCounts, countStep, cursorTo, linesIn, listing, listStep}
 use Rattle.sheets.specs.Step.{told, reportStep, startedIn, finishedIn, placesFrom, ahead, Fed}
 use Rattle.sheets.proofs.Leads.{walk-rises}
@@ -126,15 +126,30 @@ module _ (p : List ℕ) (ended : Bool) (n f : ℕ) (h : f < 512) (w : n ≤ 1844
       pick false e true i = subst (λ (x : Left). Near (x .state)) (sym (with-end m k ended n (f + c) c e (eqb-true (f + c) 0 i))) (near-end (eqb n 0))
       pick false e false i = subst (λ (x : Left). Near (x .state)) (sym (with-block m k ended n (f + c) c e (eqb-false (f + c) 0 i))) (near-taken z m (take (f + c) k))
 
-  take-near : (m k : List ℕ) → Near (takeStep m k p ended n f .state)
-  take-near m k = pick (eqb n 18446744073709551615) refl
+  one-near : (m k : List ℕ) → Near (takeOne m k p ended n f .state)
+  one-near m k = pick (eqb n 18446744073709551615) refl
     where
-      pick : (t : Bool) → eqb n 18446744073709551615 ≡ t → Near (takeStep m k p ended n f .state)
+      pick : (t : Bool) → eqb n 18446744073709551615 ≡ t → Near (takeOne m k p ended n f .state)
       pick true e = subst (λ (x : Left). Near (x .state)) (sym (take-last m k p ended n f (eqb-true n 18446744073709551615 e))) near-counting
       pick false e =
           let z = eqb-false n 18446744073709551615 e in
           let c = share f (length p) in
           subst (λ (x : Left). Near (x .state)) (sym (take-on m k p ended n f z c refl (paste k f p c) refl)) (near-with z m (paste k f p c) c refl)
+
+  near-several : (j : ℕ) → (j ≡ 0 → ⊥) → Several (length p) n f j → Near (Taking (n + j) 0)
+  near-several j z s = let l = s .numbered in let b = s .begins in (omega arith, λ _. omega (arith, z, l, b))
+
+  take-near : (m k : List ℕ) (room : ℕ) → Near (takeStep m k p ended room n f .state)
+  take-near m k room = pick (eqb j 0) refl
+    where
+      j : ℕ
+      j = wholeBlocks room (length p) n f
+
+      pick : (t : Bool) → eqb j 0 ≡ t → Near (takeStep m k p ended room n f .state)
+      pick true e = subst (λ (x : Left). Near (x .state)) (sym (take-one m k p ended room n f j refl (eqb-true j 0 e))) (one-near m k)
+      pick false e =
+          let z = eqb-false j 0 e in
+          subst (λ (x : Left). Near (x .state)) (sym (take-several m k p ended room n f j refl z)) (near-several j z (whole-several room (length p) n f z))
 
 near-counted : (o : Option (ℕ × ℕ × ℕ)) → (startedIn (afterCounts o .1) < 512) × (ahead (afterCounts o .1) < ahead Counting)
 near-counted none = (omega arith, omega arith)
@@ -155,11 +170,11 @@ does-told : (m k : List ℕ) {o e : List ℕ} {t : Told} {x : List ℕ × State}
 does-told m k g = record { memory = refl; block = refl; text = g .text; state = g .state; used = refl }
 
 module _ (m k p : List ℕ) (ended : Bool) (room : ℕ) (s : State) where
-  pub step-take : {o e m' k' : List ℕ} {r : Stepped} {n f : ℕ} → s ≡ Taking n f → f < 512 → n ≤ 18446744073709551615 → Does (takeStep m k p ended n f) m' k' o e r → r .used ≤ length p → Steps m k p ended room s m' k' o e r
+  pub step-take : {o e m' k' : List ℕ} {r : Stepped} {n f : ℕ} → s ≡ Taking n f → f < 512 → n ≤ 18446744073709551615 → Does (takeStep m k p ended room n f) m' k' o e r → r .used ≤ length p → Steps m k p ended room s m' k' o e r
   unfolding reportStep
   step-take {r = r} {n = n} {f = f} q h w d u =
-      let x = take-near p ended n f h w m k in
-      let y : r .state ≡ takeStep m k p ended n f .state = d .state in (
+      let x = take-near p ended n f h w m k room in
+      let y : r .state ≡ takeStep m k p ended room n f .state = d .state in (
         does-as (ap (reportStep m k p ended room) q) d,
         (
           (u, put-most (d .text), subst (λ t. startedIn t < 512) (sym y) (x .0)),

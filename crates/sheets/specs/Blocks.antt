@@ -1,7 +1,7 @@
--- What a block does: to the registry's memory, to the text and to the state.
+-- What a block does, and what several do: to the registry's memory, to the text and to the state.
 use mathlib.Core.Path.{_≡_}
 use mathlib.Core.Bool.{cond}
-use mathlib.Core.List.{List, []}
+use mathlib.Core.List.{List, [], _∷_, _++_}
 use mathlib.Core.Option.{none, some}
 use Prim.Native.Nat.{ℕ, _+_}
 use lib.Dec.{eqb}
@@ -35,6 +35,14 @@ admits n r = takes (r .0) (refusedBy (n + 1) (r .1)) (Taking (n + 1) 0)
 -- "The first opens, the others are admitted": the block b after n others
 unfoldable pub taken : List ℕ → List ℕ → ℕ → Taken
 taken m b n = cond (eqb n 0) (opens (memoryStep m (openWith b))) (admits n (memoryStep m (change (admit b))))
+
+-- the blocks after n others, admitted one after another: the memory left, and the lines of those refused
+unfoldable pub admitsAll : List ℕ → ℕ → List (List ℕ) → List ℕ × List ℕ
+admitsAll m n [] = (m, [])
+admitsAll m n (b ∷ l) =
+    let r = memoryStep m (change (admit b)) in
+    let t = admitsAll (r .0) (n + 1) l in
+    (t .0, refusedBy (n + 1) (r .1) ++ t .1)
 
 -- the end of the input, at the end of a block
 abbrev pub endOf : ℕ → List ℕ × State

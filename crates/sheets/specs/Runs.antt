@@ -1,10 +1,11 @@
 -- Every way of cutting the input into pieces, and every sequence of buffers: what is proved of the report.
 use mathlib.Core.Path.{_≡_}
 use mathlib.Core.Bool.{Bool, true, cond}
-use mathlib.Core.List.{List, [], _++_}
-use Prim.Native.Nat.{ℕ, suc, _+_, _-_, _≤_, _<_}
+use mathlib.Core.List.{List, [], _∷_, _++_}
+use Prim.Native.Nat.{ℕ, suc, _+_, _%_, _≤_, _<_}
 use lib.Dec.{eqb}
 use lib.ListN.{length, take, drop}
+use Rattle.block.specs.Cut.{blocksOf}
 use Rattle.model.specs.Calls.{Call, openWith, change, admit}
 use Rattle.store.specs.Layout.{memoryWords}
 use Rattle.steps.specs.MemoryStep.{memoryStep}
@@ -65,10 +66,23 @@ EveryRunIsSheet =
 abbrev pub callBy : ℕ → List ℕ → Call
 callBy n b = cond (eqb n 0) (openWith b) (change (admit b))
 
--- "A refused block n (from 1) gives `REFUSED n r` at once": a step that is lent the rest of a block uses this rest alone, no byte of
--- the next block, and has put the line of this one.
+-- the blocks after n others, one after another: the lines of those refused
+unfoldable pub linesBy : List ℕ → ℕ → List (List ℕ) → List ℕ
+linesBy m n [] = []
+linesBy m n (b ∷ l) = let r = memoryStep m (callBy n b) in refusedBy (n + 1) (r .1) ++ linesBy (r .0) (n + 1) l
+
+-- Of a step after n blocks and f bytes of the next, which the buffer k has, that was lent the piece p and left x.
+pub record AtOnce (m k p : List ℕ) (n f : ℕ) (x : Left) : Type 0 where
+  -- it used the rest of that block at least
+  pub rest : 512 ≤ f + x .used
+  pub lent : x .used ≤ length p
+  -- no byte of a block that it does not take whole
+  pub whole : (f + x .used) % 512 ≡ 0
+  -- and it has put the line of every block that it used
+  pub text : x .text ≡ linesBy m n (blocksOf (take f k ++ take (x .used) p))
+
+-- "A refused block n (from 1) gives `REFUSED n r` at once": in every step that is lent the rest of a block, or more.
 unfoldable pub BlockAtOnce : Type 0
 BlockAtOnce =
     (m k p : List ℕ) (ended : Bool) (room n f : ℕ) → length k ≡ 512 → f < 512 → (n ≡ 18446744073709551615 → ⊥) → 512 ≤ f + length p
-    → (reportStep m k p ended room (Taking n f) .used ≡ 512 - f)
-    × (reportStep m k p ended room (Taking n f) .text ≡ refusedBy (n + 1) (memoryStep m (callBy n (take f k ++ take (512 - f) p)) .1))
+    → AtOnce m k p n f (reportStep m k p ended room (Taking n f))

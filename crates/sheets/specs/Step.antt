@@ -17,7 +17,7 @@ told m k x = left m k (x .0) (x .1) 0
 -- m the memory, k the buffer of the started block, p the piece of input, `ended` whether the input ends with it, room the length of
 -- the buffer for the text
 unfoldable pub reportStep : List ℕ → List ℕ → List ℕ → Bool → ℕ → State → Left
-reportStep m k p ended room (Taking n f) = takeStep m k p ended n f
+reportStep m k p ended room (Taking n f) = takeStep m k p ended room n f
 reportStep m k p ended room Counting = told m k (countStep m)
 reportStep m k p ended room (Listing c) = told m k (listStep m room c)
 reportStep m k p ended room Finished = told m k ([], Finished)

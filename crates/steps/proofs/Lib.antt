@@ -8,3 +8,4 @@ pub mod StaysFormed
 pub mod Walk
 pub mod Parts
 pub mod ReadBack
+pub mod Batch

@@ -8,6 +8,7 @@ use native.Mathlib.Omega.{arith}
 use lib.Dec.{leb}
 use lib.ListN.{length}
 use borrow.Author.Tests.{eq-eqb, ne-eqb, le-leb, lt-leb, lt-ltb, le-ltb}
+use Rattle.block.specs.Cut.{blocksOf}
 use Rattle.block.specs.Entry.{Container, Policy, Settings, Entry, container, policy}
 use Rattle.block.specs.declared.Refusal.{Refusal}
 use Rattle.block.specs.declared.Tested.{Tested}
@@ -15,18 +16,20 @@ use Rattle.block.specs.declared.Tested.the-variants.{Passed, Refused}
 use Rattle.block.specs.Refusal.{Check, check, firstRefusal, refused, accepted}
 use Rattle.block.specs.Refusal.{readUnless}
 use Rattle.block.specs.Reader.{settingsChecks, entryChecks, settingsSaid, entrySaid, readSettings, readEntry}
+use Rattle.model.specs.declared.Tally.{Tally}
 use Rattle.model.specs.Findings.{Place}
 use Rattle.model.specs.Table.{Table, on, isFree, at, free, lowestFree}
 use Rattle.model.specs.Rules.{carries}
 use Rattle.model.specs.Model.{containerSlots, policySlots}
 use Rattle.model.specs.Findings.{containersOf, policiesOf, nextAfter, walk, pairs}
 use Rattle.model.specs.Calls.{askReaches, askUser, nextFinding, listFindings, counts, audit, write}
-use Rattle.model.specs.Calls.{Call, Change, Query, openWith, change, admit, removeContainer, removePolicy, rebuild, ask}
-use Rattle.model.specs.Calls.{refusal, done, containerAt, policyAt, says, counted, filePut, foundAnswer, findingsAnswer}
+use Rattle.model.specs.Calls.{Call, Change, Query, openWith, change, admit, admitBatch, removeContainer, removePolicy, rebuild, ask}
+use Rattle.model.specs.Calls.{refusal, done, containerAt, policyAt, says, counted, filePut, foundAnswer, findingsAnswer, run}
+use Rattle.model.specs.Batch.{batchAnswer}
 use Rattle.model.specs.File.{fileOf}
 use Rattle.model.specs.Registry.{computed, consistent, changeContainer, changePolicy, opened, rebuilt}
-use Rattle.model.specs.Refusals.{where0, slotChecks, pairChecks, noRoom, refusals}
-use Rattle.model.specs.RegistryStep.{admitContainer, admitPolicy, admitEntry, takePolicy, answerTo, acceptedStep}
+use Rattle.model.specs.Refusals.{where0, slotChecks, pairChecks, noRoom, admitChecks, batchChecks, refusals}
+use Rattle.model.specs.RegistryStep.{admitContainer, admitPolicy, admitEntry, admitBlock, takePolicy, answerTo, acceptedStep}
 use Rattle.model.proofs.Tables.{free-at, full-lowest}
 use Rattle.model.proofs.Lowest.{lowest-below}
 use Rattle.model.proofs.Agreement.{Sized, orRefusal, first-append}
@@ -184,7 +187,7 @@ module _ (m : List ℕ) (formed : wellFormed m ≡ true) where
     room x = check 12 (where0 (noRoom (modelIn m) x)) ∷ []
 
     pub admit-refused : (f : Refusal) → readEntry (modelIn m .settings) b ≡ refused f → memoryStep m (change (admit b)) ≡ (m, refusal (f .number))
-    unfolding readEntry refusals registryIn
+    unfolding readEntry refusals admitChecks registryIn
     admit-refused f e =
         step-refused m formed (change (admit b)) f
         (append-refused asked (room (entrySaid b)) f (read-refused (firstRefusal asked) (entrySaid b) f e))
@@ -193,7 +196,7 @@ module _ (m : List ℕ) (formed : wellFormed m ≡ true) where
     admit-read : (x : Entry) → readEntry (modelIn m .settings) b ≡ accepted x
         → memoryStep m (change (admit b))
         ≡ cond (noRoom (modelIn m) x) (m, refusal 12) (image (admitEntry (registryIn m) x .0), admitEntry (registryIn m) x .1)
-    unfolding readEntry refusals registryIn acceptedStep
+    unfolding readEntry refusals admitChecks registryIn acceptedStep
     admit-read x e =
         let h = read-accepted (firstRefusal asked) (entrySaid b) x e in
         step-past m formed (change (admit b))
@@ -227,6 +230,17 @@ module _ (m : List ℕ) (formed : wellFormed m ≡ true) where
         → memoryStep m (change (admit b)) ≡ (image (changePolicy (registryIn m) q p (some p)), policyAt q)
     unfolding noRoom admitEntry admitPolicy registryIn
     admit-policy-done p q e h = admit-read (policy p) e ∙ rw (← full-lowest (modelIn m .policies), h)
+
+  -- a batch
+  module _ (bs : List ℕ) (n : ℕ) (t : Tally) where
+    pub batch-refused : (f : Refusal) → firstRefusal (batchChecks bs n) ≡ Refused f → memoryStep m (change (admitBatch bs n t)) ≡ (m, refusal (f .number))
+    unfolding refusals
+    batch-refused f e = step-refused m formed (change (admitBatch bs n t)) f e
+
+    pub batch-admits : firstRefusal (batchChecks bs n) ≡ Passed
+        → let d = run admitBlock (registryIn m) (blocksOf bs) in memoryStep m (change (admitBatch bs n t)) ≡ (image (d .0), batchAnswer t (d .1))
+    unfolding refusals acceptedStep
+    batch-admits e = step-changed m formed (admitBatch bs n t) e
 
   -- remove a container
   module _ (c : ℕ) where

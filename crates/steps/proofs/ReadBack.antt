@@ -20,7 +20,7 @@ use Rattle.model.specs.Findings.{containersOf, policiesOf}
 use Rattle.model.specs.Calls.{Call, openWith, change, admit, ask, write}
 use Rattle.model.specs.Calls.{Answer, refusal, done, containerAt, policyAt, filePut, run}
 use Rattle.model.specs.File.{standingEntries, fileEntries, fileOf, reading, readAnswers, closed, closedUp}
-use Rattle.model.specs.ModelStep.{opening, placing, placingPolicy, admitting, modelStep}
+use Rattle.model.specs.ModelStep.{opening, placing, placingPolicy, admitting, admittingBlock, modelStep}
 use Rattle.model.specs.Registry.{consistent, Agree, computed}
 use Rattle.model.proofs.Lists.{All, all-append, all-mapped}
 use Rattle.model.proofs.Consistent.{consistent-exactly, computed-consistent, opened-computed}
@@ -63,12 +63,12 @@ module _ (s : Settings) where
   -- a valid entry comes to the lowest free slot of its table
   container-comes : (ps : Table Policy) (t : Table Container) (x : Container) (i : ℕ) → validEntry s (container x) ≡ true → lowestFree t ≡ some i
       → modelStep (modelOf s t ps) (admits (container x)) ≡ (modelOf s (set t i (some x)) ps, containerAt i)
-  unfolding modelStep admitting placing withContainer
+  unfolding modelStep admittingBlock admitting placing withContainer
   container-comes ps t x i v e = ap (admitting (modelOf s t ps)) (written-read s (container x) v) ∙ ap (placing (modelOf s t ps) x) e
 
   policy-comes : (cs : Table Container) (t : Table Policy) (x : Policy) (i : ℕ) → validEntry s (policy x) ≡ true → lowestFree t ≡ some i
       → modelStep (modelOf s cs t) (admits (policy x)) ≡ (modelOf s cs (set t i (some x)), policyAt i)
-  unfolding modelStep admitting placingPolicy withPolicy
+  unfolding modelStep admittingBlock admitting placingPolicy withPolicy
   policy-comes cs t x i v e = ap (admitting (modelOf s cs t)) (written-read s (policy x) v) ∙ ap (placingPolicy (modelOf s cs t) x) e
 
   -- the standing entries of a table come to a free table of its size, and are that table closed up

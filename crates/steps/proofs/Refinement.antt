@@ -36,7 +36,7 @@ use Rattle.steps.proofs.Valid.{acceptable-computed, valid-empty, valid-
 
 -- ---- one call
 
-abbrev imaged : {A : Type 0} → Registry × A → List ℕ × A
+abbrev pub imaged : {A : Type 0} → Registry × A → List ℕ × A
 imaged r = (image (r .0), r .1)
 
 -- what a call that is not refused leaves: a query leaves its registry

@@ -3,3 +3,4 @@ pub mod MemoryStep
 pub mod NumbersMet
 pub mod Refinement
 pub mod ReadBack
+pub mod Batch

@@ -1,7 +1,9 @@
 -- The lines of the report, from document 01, "The program and one printed sheet".
+use mathlib.Core.Bool.{cond}
 use mathlib.Core.List.{List, [], _∷_, _++_}
 use mathlib.Core.Option.{none, some}
-use Prim.Native.Nat.{ℕ, _/_, _%_}
+use Prim.Native.Nat.{ℕ, _+_, _/_, _%_}
+use lib.Dec.{eqb}
 use Rattle.model.specs.declared.Finding.{Finding}
 use Rattle.model.specs.Calls.{Answer}
 use Rattle.model.specs.Calls.{said}
@@ -31,6 +33,15 @@ refusedLine n r = named refusedWord n space ++ ended (decimal r) newline
 -- what the answer to block n gives
 abbrev pub refusedBy : ℕ → Answer → List ℕ
 refusedBy n a = elim (said a .refused) [ none ↦ [] | some r ↦ refusedLine n r ]
+
+-- what the first of the two numbers that answer block n gives: 0 for a block that was taken, or its refusal
+unfoldable pub numberLine : ℕ → ℕ → List ℕ
+numberLine n r = cond (eqb r 0) [] (refusedLine n r)
+
+-- of the blocks after n others
+unfoldable pub pairLines : ℕ → List (ℕ × ℕ) → List ℕ
+pairLines n [] = []
+pairLines n (p ∷ ps) = numberLine (n + 1) (p .0) ++ pairLines (n + 1) ps
 
 -- "one line with the standing counts and PAIRS"
 unfoldable pub countsLine : ℕ → ℕ → ℕ → List ℕ

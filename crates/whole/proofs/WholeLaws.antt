@@ -18,7 +18,8 @@ use Rattle.formed.specs.Registry.{storedBit, contentsOf, image}
 use Rattle.formed.proofs.Back.{image-written}
 use Rattle.formed.proofs.StoredLaws.{Fit}
 
-abbrev allRows : Band
+-- the rows of all three tables
+abbrev pub allRows : Band
 allRows = record { first = 0; step = 1; count = rowCount }
 
 module _ (r : Registry) where

@@ -155,14 +155,54 @@ fn reset(m: &mut [u64], q: usize, direction: u64, selected: Row) {
     s.allowed[q] = row_at(m, layout::allowed(q));
     fill(m, &mut s, Some(q));
     let (rows, columns) = if direction == EGRESS { (selected, s.containers) } else { (s.containers, selected) };
-    lines(&s, rows, |a, row| set_row(m, a, either(except(row_at(m, a), columns), both(row, columns))));
+    lines(&s, rows, |a, row| set_bits(m, a, row, columns));
+}
+
+/// Of a table, the slots that entries of a batch came to, and the slot from which the next free one is looked for.
+struct Came {
+    table: Table,
+    slots: Row,
+    from: usize,
+}
+
+impl Came {
+    fn to(table: Table) -> Came {
+        Came { table, slots: EMPTY, from: 0 }
+    }
+
+    fn place(&mut self, m: &mut [u64], entry: &Entry) -> [u16; 2] {
+        let Some(i) = free_from(m, self.table, self.from) else {
+            self.from = self.table.2;
+            return [12, 0];
+        };
+        store(m, i, entry);
+        put(&mut self.slots, i);
+        self.from = i + 1;
+        [0, i as u16]
+    }
+}
+
+/// The bits that entries touch which came to these slots, all of them at once by the entries as they stand now.
+fn set_came(m: &mut [u64], containers: Row, policies: Row) {
+    if is_empty(&either(containers, policies)) {
+        return;
+    }
+    let mut s = Sets::new(m);
+    fill(m, &mut s, None);
+    for q in 0..POLICY_SLOTS {
+        let places = if has(&policies, q) { s.containers } else { containers };
+        set_bits(m, layout::selected(q), s.selected[q], places);
+        set_bits(m, layout::allowed(q), s.allowed[q], places);
+    }
+    let rows = either(containers, union(&both(policies, s.egress), &s.selected));
+    let columns = either(containers, union(&both(policies, s.ingress), &s.selected));
+    let some = if is_empty(&columns) { rows } else { s.containers };
+    if !is_empty(&some) {
+        lines(&s, some, |a, row| set_bits(m, a, row, if has(&rows, a) { s.containers } else { columns }));
+    }
 }
 
 impl Algorithms for ByLabels {
-    fn zero(bytes: &[u8]) -> bool {
-        bytes.iter().fold(0, |x, y| x | y) == 0
-    }
-
     fn part_row(m: &[u64], part: usize, containers: Row) -> Row {
         trial(m, part, containers)
     }
@@ -194,5 +234,17 @@ impl Algorithms for ByLabels {
     fn rows(s: &Sets, mut each: impl FnMut(usize, Row)) {
         lines(s, s.containers, &mut each);
         (0..CONTAINER_SLOTS).filter(|a| !has(&s.containers, *a)).for_each(|a| each(a, EMPTY));
+    }
+
+    fn batch(m: &mut [u64], blocks: &[Block], numbers: &mut [[u16; 2]]) {
+        let (mut containers, mut policies) = (Came::to(CONTAINER_TABLE), Came::to(POLICY_TABLE));
+        for (block, put) in blocks.iter().zip(numbers) {
+            *put = match read_entry(block) {
+                Ok(entry @ Entry::Container(_)) => containers.place(m, &entry),
+                Ok(entry @ Entry::Policy(..)) => policies.place(m, &entry),
+                Err(n) => [n as u16, 0],
+            };
+        }
+        set_came(m, containers.slots, policies.slots);
     }
 }

@@ -1,6 +1,7 @@
 //! The first release's algorithms: each part is tried against each container, each row goes through all policies.
 
 use super::*;
+use crate::answers::outcome;
 
 pub struct ByTrials;
 
@@ -10,10 +11,6 @@ fn matches(m: &[u64], part: usize, at: usize) -> bool {
 }
 
 impl Algorithms for ByTrials {
-    fn zero(bytes: &[u8]) -> bool {
-        bytes.iter().all(|x| *x == 0)
-    }
-
     fn part_row(m: &[u64], part: usize, containers: Row) -> Row {
         let (mut row, mut from) = (EMPTY, 0);
         while let Some(c) = next_from(&containers, from) {
@@ -51,7 +48,7 @@ impl Algorithms for ByTrials {
             };
             if has(&s.containers, a) {
                 let row = by_rules(&s, &s.egress, &s.ingress, chosen, a);
-                set_row(m, a, either(except(row_at(m, a), mask), both(row, mask)));
+                set_bits(m, a, row, mask);
             }
         }
     }
@@ -80,6 +77,15 @@ impl Algorithms for ByTrials {
         let chosen = union(&s.ingress, &s.selected);
         for a in 0..CONTAINER_SLOTS {
             each(a, by_rules(s, &s.egress, &s.ingress, chosen, a));
+        }
+    }
+
+    fn batch(m: &mut [u64], blocks: &[Block], numbers: &mut [[u16; 2]]) {
+        for (block, put) in blocks.iter().zip(numbers) {
+            *put = match outcome(admit::<Self>(m, block)) {
+                Ok(slot) => [0, slot as u16],
+                Err(n) => [n as u16, 0],
+            };
         }
     }
 }

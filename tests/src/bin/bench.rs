@@ -1,21 +1,24 @@
 //! Times of each call beside plain Rust by the same algorithms and by those of the first release: on the same memories, in one
 //! run, CPU time. `bench` prints a table over the registries and what is above its bar; `bench --growth` how the times grow with
-//! the number of entries.
+//! the number of entries; `bench --lister` the times of the program beside fast_lister.
 
-use bihokura_tests::answers::{outcome, Finding, START};
+use bihokura_tests::answers::{outcome, Finding, Tally, START};
 use bihokura_tests::baseline::{self as b, ByLabels, ByTrials};
 use bihokura_tests::bytes::{self, EGRESS, INGRESS};
 use bihokura_tests::layout::{CONTAINER_SLOTS, POLICY_SLOTS, WORDS};
-use bihokura_tests::process::PROGRAM;
+use bihokura_tests::process::{FAST, FAST_STATIC, PROGRAM};
 use bihokura_tests::registries::{self, settings, Registry, FILE};
-use bihokura_tests::{c, clock, walks};
+use bihokura_tests::{c, clock, sheet, walks};
 use std::cell::RefCell;
 use std::fs::File;
 use std::hint::black_box;
+use std::path::Path;
 use std::process::Command;
 use std::time::Duration;
 
 const TURNS: u32 = 40;
+/// A process that ends at once is disturbed more than a call.
+const TURNS_OF_PROCESSES: u32 = 200;
 
 /// Runs the work some frames deeper. So the batches stand at different places of the stack: where a row that is read or written
 /// for each of many rows happens to lie across two pages, a call takes some microseconds more.
@@ -45,10 +48,10 @@ fn batch(clock: fn() -> Duration, work: &mut dyn FnMut()) -> u32 {
 
 /// The lowest time of each work in nanoseconds, over batches that take turns: what disturbs a batch only makes it slower, and a
 /// slow spell of the machine meets all.
-fn times<const N: usize>(clock: fn() -> Duration, mut works: [&mut dyn FnMut(); N]) -> [f64; N] {
+fn times<const N: usize>(clock: fn() -> Duration, turns: u32, mut works: [&mut dyn FnMut(); N]) -> [f64; N] {
     let counts: Vec<u32> = works.iter_mut().map(|w| batch(clock, w)).collect();
     let mut least = [f64::INFINITY; N];
-    for turn in 0..TURNS {
+    for turn in 0..turns {
         for (i, work) in works.iter_mut().enumerate() {
             let began = clock();
             deeper(turn % 8, &mut || (0..counts[i]).for_each(|_| work()));
@@ -101,7 +104,7 @@ fn still(name: &'static str, m: &RefCell<Vec<u64>>, [ours, same, release]: [Side
     let work = |side: Side| {
         black_box(side(&mut m.borrow_mut(), 0));
     };
-    line(name, times(clock::thread, [&mut || work(ours), &mut || work(same), &mut || work(release)]), 1)
+    line(name, times(clock::thread, TURNS, [&mut || work(ours), &mut || work(same), &mut || work(release)]), 1)
 }
 
 /// A memory that a change starts from, and the one that it leaves.
@@ -144,6 +147,7 @@ fn changes(name: &'static str, all: &[Change], forth: bool, sides: [Side; 3]) ->
     let [ours, same, release] = sides;
     let [ours, same, release, both_ways] = times(
         clock::thread,
+        TURNS,
         [&mut || work(ours), &mut || work(same), &mut || work(release), &mut || (0..all.len()).for_each(there_and_back)],
     );
     line(name, [ours, same, release].map(|t| t - both_ways / 2.0), all.len())
@@ -197,6 +201,23 @@ fn walk_by_lists(m: &[u64], findings: impl Fn(&[u64], Finding, &mut [u64]) -> u6
     n
 }
 
+const BATCH: &str = "a batch of 128 onto 128 and 64 at most";
+const TO_SINGLE_CALLS: &str = "the same, to 128 calls of admit";
+
+/// A batch of 128 onto the first entries of a registry: beside plain Rust's, and beside single admissions, ours and plain Rust's by
+/// the same algorithms.
+fn batches(r: &Registry, containers: usize, policies: usize) -> Vec<Line> {
+    let (x, y) = (containers.min(128), policies.min(64));
+    let (blocks, numbers, tally) = (r.batch(x, y), RefCell::new([0; 256]), RefCell::new(Tally::default()));
+    let singly = |m: &mut [u64], admit: &dyn Fn(&mut [u64], &[u8]) -> u64| blocks.chunks(512).map(|b| admit(m, b)).sum::<u64>();
+    let (from, mut to) = (r.memory_of(x, y), r.memory_of(x, y));
+    singly(&mut to, &c::admit);
+    let one = [(from, to)];
+    let sides: [Side; 3] = sides!(|_| admit_batch(&blocks, &mut *numbers.borrow_mut(), &mut tally.borrow_mut()));
+    let single: [Side; 3] = [sides[0], &|m, _| singly(m, &c::admit), &|m, _| singly(m, &b::admit::<ByLabels>)];
+    vec![changes(BATCH, &one, true, sides), changes(TO_SINGLE_CALLS, &one, true, single)]
+}
+
 /// The file of a registry, which the register and plain Rust write alike.
 fn written(m: &[u64]) -> Vec<u8> {
     let mut file = vec![0; FILE];
@@ -231,7 +252,7 @@ fn others(full: &[u64], r: &Registry) -> Vec<Line> {
     assert_eq!(walk_by_lists(full, c::findings), walk(full, b::next_finding));
     assert!(*m.borrow() == full);
     let first = settings();
-    lines.push(still("open", &m, sides!(|_| open(&first))));
+    lines.push(still("open", &m, alike!(|_| open(&first))));
     lines
 }
 
@@ -242,8 +263,8 @@ fn filling(name: &'static str, blocks: &[&Vec<u8>]) -> Line {
         open(m, &settings()) + blocks.iter().map(|block| admit(m, block)).sum::<u64>()
     };
     let ours: Side = &|m, _| fill(m, &c::open, &c::admit);
-    let same: Side = &|m, _| fill(m, &b::open::<ByLabels>, &b::admit::<ByLabels>);
-    let release: Side = &|m, _| fill(m, &b::open::<ByTrials>, &b::admit::<ByTrials>);
+    let same: Side = &|m, _| fill(m, &b::open, &b::admit::<ByLabels>);
+    let release: Side = &|m, _| fill(m, &b::open, &b::admit::<ByTrials>);
     let l = still(name, &m, [ours, same, release]);
     let each = |t: f64| t / blocks.len() as f64;
     Line { ours: each(l.ours), same: each(l.same), release: each(l.release), ..l }
@@ -259,34 +280,61 @@ fn all_calls(r: &Registry, containers: usize, policies: usize) -> Vec<Line> {
     let (x, y) = (&r.containers[..containers], &r.policies[..policies]);
     let mut lines = entries(&full, r, &cs, &ps);
     lines.extend(others(&full, r));
+    lines.extend(batches(r, containers, policies));
     lines.push(filling("filling, containers first", &x.iter().chain(y).collect::<Vec<_>>()));
     lines.push(filling("filling, policies first", &y.iter().chain(x).collect::<Vec<_>>()));
     lines.push(lister(r, containers, policies));
     lines
 }
 
-/// The program lister on full tables, and the same in plain Rust: each a whole process.
-fn lister(r: &Registry, containers: usize, policies: usize) -> Line {
-    let blocks = r.containers[..containers].iter().chain(&r.policies[..policies]);
-    let input: Vec<u8> = settings().into_iter().chain(blocks.flatten().copied()).collect();
+/// CPU times of programs with their arguments on one input, each time a whole process, in nanoseconds. They print the same.
+fn processes<const N: usize>(input: &[u8], turns: u32, programs: [(&Path, &[&str]); N]) -> [f64; N] {
     let file = std::env::temp_dir().join(format!("bihokura-bench-{}.blocks", std::process::id()));
-    std::fs::write(&file, &input).unwrap();
-    let run = |program: &std::path::Path, by: &[&str]| {
-        let child = Command::new(program).args(by).stdin(File::open(&file).unwrap()).output();
+    std::fs::write(&file, input).unwrap();
+    let run = |(program, args): (&Path, &[&str])| {
+        let child = Command::new(program).args(args).stdin(File::open(&file).unwrap()).output();
         child.unwrap_or_else(|e| panic!("{}: {e}", program.display())).stdout
     };
-    let ours = std::path::Path::new(PROGRAM);
-    let plain = std::env::current_exe().unwrap().with_file_name("plain_lister");
-    assert_eq!(run(ours, &[]), run(&plain, &["labels"]));
-    assert_eq!(run(ours, &[]), run(&plain, &["trials"]));
-    let work = |program: &std::path::Path, by: &[&str]| {
-        black_box(run(program, by));
-    };
-    let works: [&mut dyn FnMut(); 3] =
-        [&mut || work(ours, &[]), &mut || work(&plain, &["labels"]), &mut || work(&plain, &["trials"])];
-    let l = line("lister", times(clock::children, works), 1);
+    let report = run(programs[0]);
+    assert!(programs.iter().all(|p| run(*p) == report));
+    let mut works = programs.map(|p| {
+        move || {
+            black_box(run(p));
+        }
+    });
+    let taken = times(clock::children, turns, works.each_mut().map(|w| w as &mut dyn FnMut()));
     std::fs::remove_file(&file).unwrap();
-    l
+    taken
+}
+
+/// The program lister on full tables, and the same in plain Rust.
+fn lister(r: &Registry, containers: usize, policies: usize) -> Line {
+    let plain = std::env::current_exe().unwrap().with_file_name("plain_lister");
+    let programs: [(&Path, &[&str]); 3] = [(Path::new(PROGRAM), &[]), (&plain, &["labels"]), (&plain, &["trials"])];
+    line("lister", processes(&r.stream(containers, policies), TURNS, programs), 1)
+}
+
+/// The program lister beside fast_lister, linked in the same way, which its bar is for, and statically.
+fn to_fast_lister(all: &[Registry]) {
+    let full = |r: &Registry| r.stream(CONTAINER_SLOTS, POLICY_SLOTS);
+    let inputs = [
+        ("full tables, registry 1", full(&all[0])),
+        ("full tables with few findings", full(&registries::quiet())),
+        ("full tables with 64 keys, registry 2", full(&all[1])),
+        ("the printed sheet", sheet::printed()),
+    ];
+    println!("| input | blocks | lister | fast_lister | the same, static |\n|---|---|---|---|---|");
+    let mut above = vec![];
+    for (name, input) in inputs {
+        let [ours, fast, other] =
+            processes(&input, TURNS_OF_PROCESSES, [PROGRAM, FAST, FAST_STATIC].map(|p| (Path::new(p), &[][..])));
+        let cell = |t: f64| format!("{:.0} ({:.2})", t / 1e3, ours / t);
+        println!("| {name} | {} | {:.0} | {} | {} |", input.len() / 512, ours / 1e3, cell(fast), cell(other));
+        if ours > 1.3 * fast {
+            above.push(format!("above its bar: lister, {name}: {:.2} of fast_lister", ours / fast));
+        }
+    }
+    above.iter().for_each(|line| println!("{line}"));
 }
 
 /// The bars of a call: to the same algorithms and to those of the first release. Registries 6 and 7 are made against the hash, and
@@ -304,7 +352,8 @@ fn bars(name: &str, registry: &str) -> (f64, f64) {
     };
     let same = match name {
         "lister" => f64::INFINITY,
-        "write" => 1.3,
+        "write" | BATCH => 1.3,
+        TO_SINGLE_CALLS => 0.1,
         _ => 1.2,
     };
     (same, release)
@@ -331,6 +380,10 @@ fn print(heads: &[String], tables: &[Vec<Line>]) {
 fn main() {
     let all = registries::all();
     let args: Vec<String> = std::env::args().skip(1).collect();
+    if args.iter().any(|a| a == "--lister") {
+        to_fast_lister(&all);
+        return;
+    }
     if args.iter().any(|a| a == "--growth") {
         let sizes = [(1, 0), (32, 16), (64, 32), (128, 64), (CONTAINER_SLOTS, POLICY_SLOTS)];
         let tables: Vec<Vec<Line>> = sizes.iter().map(|(x, y)| all_calls(&all[0], *x, *y)).collect();

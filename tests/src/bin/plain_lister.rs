@@ -31,7 +31,7 @@ fn list<A: Algorithms, const AT_A_TIME: usize>(findings: Listing) {
     }
     let mut m = vec![0; WORDS];
     for (i, block) in input.chunks(512).enumerate() {
-        let answer = if i == 0 { b::open::<A>(&mut m, block) } else { b::admit::<A>(&mut m, block) };
+        let answer = if i == 0 { b::open(&mut m, block) } else { b::admit::<A>(&mut m, block) };
         if let Err(refusal) = outcome(answer) {
             writeln!(out, "REFUSED {} {refusal}", i + 1).unwrap();
             if i == 0 {

@@ -8,8 +8,8 @@ use Rattle.block.proofs.Accepted.{accepted-container, accepted-policy, passed-l
 use Rattle.formed.specs.Registry.{modelIn, wellFormed}
 use Rattle.formed.proofs.Formed.{formed-entries}
 use Rattle.call_tests.proofs.TestLaws.{memory-refused, memory-passed}
-use Rattle.answers.proofs.AdmissionLaws.{admit-container, admit-policy}
-use Rattle.admission.proofs.BlockLaws.{tested-here, admit-refused-by}
+use Rattle.answers.proofs.AdmissionLaws.{tested-here, admit-container, admit-policy}
+use Rattle.admission.proofs.BlockLaws.{admit-refused-by}
 use borrow.Author.Needs.{needs}
 use Rattle.admission.proofs.admit.Statement.{statement}
 use Rattle.admission.proofs.admit.Tie as tie

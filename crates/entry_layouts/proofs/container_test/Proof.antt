@@ -15,7 +15,9 @@ layout-test-requires c κs =
     record { first = omega arith; second = omega arith; head = omega arith; rest = omega arith }
 
 returns : tie.Need-returns
-returns c = c .layout-test .ensures ∙ container-layout _ _ _ (c .before .before .before .unless .ensures) (c .before .size .ensures .0)
+returns c =
+    let d = c .before .before .before .before .before .before in
+    c .layout-test .ensures ∙ container-layout _ _ _ _ (d .pre .1) (c .before .before .before .unless .ensures) (c .before .size .ensures .0)
 
 pub container-test-spec : {M : Type 1} → statement M
 container-test-spec =

@@ -13,7 +13,9 @@ layout-test-requires c κs =
     record { first = omega arith; second = omega arith; head = omega arith; rest = omega arith }
 
 returns : tie.Need-returns
-returns c = c .layout-test .ensures ∙ policy-layout _ _ _ _ (c .before .before .before .before .before .policy-limits .ensures) (c .before .before .before .size .ensures .0) (c .before .size2 .ensures .0)
+returns c =
+    let d = c .before .before .before .before .before .before .before in
+    c .layout-test .ensures ∙ policy-layout _ _ _ _ _ (d .pre .1) (c .before .before .before .before .before .policy-limits .ensures) (c .before .before .before .size .ensures .0) (c .before .size2 .ensures .0)
 
 pub policy-test-spec : {M : Type 1} → statement M
 policy-test-spec =

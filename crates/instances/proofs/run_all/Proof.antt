@@ -10,7 +10,7 @@ abbrev Inv-loop : tie.InvT-loop
 Inv-loop memory₀ case₀ memory case = length memory ≡ length memory₀
 
 abbrev μ-loop : tie.MeasureT-loop
-μ-loop memory₀ case₀ memory case = 86 - case
+μ-loop memory₀ case₀ memory case = 92 - case
 
 pub run-all-spec : {M : Type 1} → statement M
 run-all-spec =

@@ -30,7 +30,7 @@ loop-holds c = resets-none _ _ _ (entries-hold _ (from-gathered c .pre .0 .0)) (
 reset-row-requires : tie.Need-reset-row-requires Inv-loop μ-loop
 reset-row-requires c κs =
     let t = c .before .before .before .before .before .before in
-    (t .before .loop .inv .filled .held .whole, t .loop-test .taken)
+    (t .before .loop .inv .filled .held .whole, omega (arith, t .loop-test .taken))
 
 loop-again : tie.Need-loop-again Inv-loop μ-loop
 unfolding registryIn

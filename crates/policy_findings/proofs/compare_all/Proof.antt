@@ -8,9 +8,8 @@ use Rattle.bitrow.specs.Set.{meet, under, insert, Lowest}
 use Rattle.bitrow.proofs.Sets.{meet-nothing, under-zero}
 use Rattle.bitrow.proofs.Rows.{row-bounded}
 use Rattle.bitrow.proofs.Searches.{lowest-at, lowest-nothing}
-use Rattle.entries.proofs.Trials.{gather-take, gather-skip, gather-done}
+use Rattle.entries.proofs.Trials.{gather-take, gather-skip, gather-done, policy-below}
 use Rattle.policy_pairs.specs.Comparisons.{comparison}
-use Rattle.policy_pairs.proofs.PolicyReading.{at-policy}
 use Rattle.policy_findings.proofs.compare_all.Statement.{statement}
 use Rattle.policy_findings.proofs.compare_all.Tie as tie
 
@@ -39,7 +38,8 @@ add-from c = let j = lowest (c .before) .below in search needs
 compare-requires : tie.Need-compare-requires Inv-loop μ-loop
 compare-requires c κs =
     let p = c .before .before .before .before .before .before .before .pre in
-    (p .0, at-policy _ _ _ (p .0 .at .formed) (p .1) (lowest (c .before) .there))
+    let h = p .1 .stand _ (lowest (c .before) .there) in
+    (p .0, record { formed = p .0 .at .formed; here = h; below = policy-below _ _ h })
 
 with-requires : tie.Need-with-requires Inv-loop μ-loop
 with-requires c κs = lowest (c .before .before .before) .below

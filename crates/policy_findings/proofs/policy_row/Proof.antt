@@ -1,7 +1,7 @@
 -- One case for each kind; the row is empty where no policy stands at a.
 use borrow.Author.Needs.{needs}
 use native.Mathlib.Omega.{arith}
-use mathlib.Core.Path.{sym, ap, ap₂, _∙_}
+use mathlib.Core.Path.{refl, sym, ap, ap₂, _∙_}
 use mathlib.Core.Bool.{_&&_}
 use borrow.Author.Tests.{not-true, not-false}
 use Rattle.bitrow.specs.Bit.{bitAt}
@@ -51,15 +51,18 @@ returns-3 c =
     ∙ compared-none _ (p .0) _ (here (r .before .before) .here) _ (p .3) (t .before .before .if2 .left)
     (sym (ap₂ (λ x y. hasSome x && hasSome y) (r .before .stored-selected .ensures) (r .stored-allowed .ensures)) ∙ one-empty (hasSome (bitAt (r .before .stored-selected .result))) (hasSome (bitAt (r .stored-allowed .result))) (t .before .is-empty .ensures) (t .is-empty2 .ensures) (c .before .if3 .taken))
 
+candidates-requires : tie.Need-candidates-requires
+candidates-requires c κs = (compared (c .before) .at, c .before .before .before .before .before .before .before .before .before .before .pre .1)
+
 compare-all-requires : tie.Need-compare-all-requires
-compare-all-requires c κs = (compared (c .before), c .before .before .before .before .before .before .before .before .before .before .pre .1)
+compare-all-requires c κs = (compared (c .before .before), c .candidates .ensures)
 
 returns-4 : tie.Need-returns-4
 returns-4 c =
-    let t = c .before in
+    let t = c .before .before in
     let r = t .before .before .before .before .before in
     let p = r .before .before .before .before .before .pre in
-    c .compare-all .ensures ∙ comparison-row _ _ (here (r .before .before) .here) (p .1) _ (p .3) (t .if4 .taken)
+    c .compare-all .ensures ∙ c .before .candidates .ensures .row ∙ comparison-row _ _ (here (r .before .before) .here) refl _ (p .3) (t .if4 .taken)
 
 returns-5 : tie.Need-returns-5
 returns-5 c =
@@ -86,6 +89,7 @@ policy-row-spec =
     (λ c κs. search needs)
     (λ c κs. search needs)
     returns-3
+    candidates-requires
     compare-all-requires
     returns-4
     (λ c κs. search needs)

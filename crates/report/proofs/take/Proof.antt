@@ -1,47 +1,50 @@
--- Each return is one of the four ways of `takeStep`.
-use mathlib.Core.Path.{refl, sym, _∙_}
+-- Whole blocks at once, or one at most, as `takeStep` picks.
+use mathlib.Core.Path.{refl, sym}
+use Prim.Native.Nat.{_*_}
 use native.Mathlib.Omega.{arith}
 use lib.Seq.{length-take-le}
-use Rattle.buffer.proofs.BufferLaws.{puts-none}
-use Rattle.sheets.proofs.PieceLaws.{does-as, take-last, take-on, with-more, with-end, with-block}
+use Rattle.sheets.proofs.PieceLaws.{does-as, take-one, take-several}
 use borrow.Author.Needs.{needs}
 use Rattle.report.proofs.take.Statement.{statement}
 use Rattle.report.proofs.take.Tie as tie
 
 returns : tie.Need-returns
-returns c = (does-as (take-last _ _ _ _ _ _ (c .if1 .taken)) (record { memory = refl; block = refl; text = puts-none (omega arith); state = refl; used = refl }), omega arith)
+returns c =
+    let t = c .before .before .before .before .before .before .take-one .ensures in
+    let i = c .before .before .before .before .before .before .before .before .before .before in
+    (does-as (take-one _ _ _ _ _ _ _ _ (i .before .whole-blocks .ensures .0) (i .if1 .taken)) (t .0), t .1)
+
+slice-aggregate-take-blocks : tie.Need-slice-aggregate-take-blocks
+slice-aggregate-take-blocks c = sym (length-take-le _ _ (omega arith))
+
+take-blocks-requires : tie.Need-take-blocks-requires
+take-blocks-requires c κs =
+    let b = c .before .before .before .before .whole-blocks in
+    let e = b .ensures .1 in
+    let l = length-take-le (512 * b .result) (c .before .before .before .before .before .before .before .before .before .args .piece .now) (e .1) in
+    (omega (arith, l, e .0), omega (arith, l), omega (arith, l, e .2), omega (arith, l, e .3))
 
 returns-2 : tie.Need-returns-2
-returns-2 c = (does-as (take-on _ _ _ _ _ _ (c .before .before .before .before .before .before .before .if1 .left) _ (c .before .before .before .before .before .before .share .ensures .0) _ (c .before .before .before .before .copy .ensures) ∙ with-more _ _ _ _ _ _ (sym (c .before .waits .ensures) ∙ c .if2 .taken)) (record { memory = refl; block = refl; text = puts-none (omega arith); state = refl; used = refl }), omega arith)
-
-returns-3 : tie.Need-returns-3
-returns-3 c = (does-as (take-on _ _ _ _ _ _ (c .before .before .before .before .before .before .before .before .before .before .before .before .if1 .left) _ (c .before .before .before .before .before .before .before .before .before .before .before .share .ensures .0) _ (c .before .before .before .before .before .before .before .before .before .copy .ensures) ∙ with-end _ _ _ _ _ _ (sym (c .before .before .before .before .before .before .waits .ensures) ∙ c .before .before .before .before .before .if2 .left) (c .before .before .before .before .if3 .taken)) (record { memory = refl; block = refl; text = c .before .before .end-after .ensures .text; state = c .before .before .end-after .ensures .state; used = refl }), omega arith)
-
-slice-aggregate-take-block : tie.Need-slice-aggregate-take-block
-slice-aggregate-take-block c = sym (length-take-le _ _ (omega arith))
-
-returns-4 : tie.Need-returns-4
-returns-4 c = (does-as (take-on _ _ _ _ _ _ (c .before .before .before .before .before .before .before .before .before .before .before .before .before .before .before .before .if1 .left) _ (c .before .before .before .before .before .before .before .before .before .before .before .before .before .before .before .share .ensures .0) _ (c .before .before .before .before .before .before .before .before .before .before .before .before .before .copy .ensures) ∙ with-block _ _ _ _ _ _ (sym (c .before .before .before .before .before .before .before .before .before .before .waits .ensures) ∙ c .before .before .before .before .before .before .before .before .before .if2 .left) (c .before .before .before .before .before .before .before .before .if3 .left)) (record { memory = c .before .before .before .before .take-block .ensures .memory; block = refl; text = c .before .before .before .before .take-block .ensures .text; state = c .before .before .before .before .take-block .ensures .state; used = refl }), omega arith)
+returns-2 c =
+    let t = c .before .before .before .before .take-blocks .ensures in
+    let i = c .before .before .before .before .before .before .before .before in
+    let b = i .before .whole-blocks .ensures in
+    (does-as (take-several _ _ _ _ _ _ _ _ (b .0) (i .if1 .left)) (record { memory = t .0; block = refl; text = t .1; state = refl; used = refl }), b .1 .1)
 
 pub take-spec : {M : Type 1} → statement M
 take-spec =
     tie.close
     (tie.spec
+    (λ c κs. search needs)
+    (λ c κs. search needs)
+    (λ c. search needs)
+    (λ c. search needs)
+    (λ c. search needs)
     returns
-    (λ c κs. search needs)
-    (λ c κs. search needs)
     (λ c. search needs)
-    (λ c κs. search needs)
-    (λ c. search needs)
-    returns-2
-    (λ c κs. search needs)
-    (λ c. search needs)
-    (λ c. search needs)
-    returns-3
-    (λ c. search needs)
-    slice-aggregate-take-block
-    (λ c κs. search needs)
+    slice-aggregate-take-blocks
+    take-blocks-requires
     (λ c. search needs)
     (λ c. search needs)
     (λ c. search needs)
-    returns-4)
+    returns-2)

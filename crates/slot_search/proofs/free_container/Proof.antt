@@ -1,17 +1,11 @@
--- What the search of the first words finds is the table's lowest free slot.
-use mathlib.Core.Path.{sym, ap, _∙_}
-use Rattle.entries.specs.Entries.{freeContainer}
-use Rattle.entries.proofs.FreeSlots.{container-found, containers-full}
+-- The search from the first slot on.
+use Rattle.entries.proofs.FreeSlots.{none-free-yet}
 use borrow.Author.Needs.{needs}
 use Rattle.slot_search.proofs.free_container.Statement.{statement}
 use Rattle.slot_search.proofs.free_container.Tie as tie
 
-returns : tie.Need-returns
-returns c = sym (ap freeContainer (container-found _ _ (sym (c .before .before .before .lowest-free .ensures) ∙ c .before .found .given .1)))
-
-returns-2 : tie.Need-returns-2
-returns-2 c = sym (ap freeContainer (containers-full _ (sym (c .before .before .lowest-free .ensures) ∙ c .enum-told .given .1)))
+free-container-from-requires : tie.Need-free-container-from-requires
+free-container-from-requires c κs = (c .before .pre, none-free-yet _)
 
 pub free-container-spec : {M : Type 1} → statement M
-free-container-spec =
-    tie.close (tie.spec (λ c κs. search needs) (λ c. search needs) (λ c. search needs) returns returns-2)
+free-container-spec = tie.close (tie.spec free-container-from-requires (λ c. search needs))

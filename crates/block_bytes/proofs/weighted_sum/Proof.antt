@@ -1,20 +1,20 @@
 -- The sum so far is the weighted sum of the first i bytes, and too small to wrap.
 use mathlib.Core.List.{List}
 use mathlib.Core.Path.{_≡_, _∙_, ap, sym}
-use Prim.Native.Nat.{ℕ, _-_, _+_, _*_, _≤_, _%_}
-use native.Mathlib.Nat.{mul-le-mul}
+use Prim.Native.Nat.{ℕ, _-_, _+_, _*_, _≤_}
+use native.Mathlib.Nat.{mul-le-mul, le-antisymm}
 use native.Mathlib.Numerals.{add-one}
 use native.Mathlib.Omega.{arith}
 use borrow.Author.Needs.{needs}
-use Rattle.block.specs.Bytes.{byteAt, weighted, checksum}
-use Rattle.block_bytes.proofs.checksum.Statement.{statement}
-use Rattle.block_bytes.proofs.checksum.Tie as tie
+use Rattle.block.specs.Bytes.{byteAt, weighted}
+use Rattle.block_bytes.proofs.weighted_sum.Statement.{statement}
+use Rattle.block_bytes.proofs.weighted_sum.Tie as tie
 
 abbrev Inv-loop : tie.InvT-loop
-Inv-loop block sum₀ i₀ sum i = (i ≤ 510) × (sum ≤ 130050 * i) × (sum ≡ weighted block i)
+Inv-loop block end sum₀ i₀ sum i = (i ≤ end) × (sum ≤ 130050 * i) × (sum ≡ weighted block i)
 
 abbrev μ-loop : tie.MeasureT-loop
-μ-loop block sum₀ i₀ sum i = 510 - i
+μ-loop block end sum₀ i₀ sum i = end - i
 
 weighted-next : (b : List ℕ) (i s x : ℕ) → s ≡ weighted b i → x ≡ byteAt b i → s + x * (i + 1) ≡ weighted b (i + 1)
 unfolding weighted
@@ -39,11 +39,10 @@ loop-again c =
     (omega arith, omega (arith, small c), weighted-next (c .before .before .before .before .before .args .block .now) (l .i) (l .sum) _ (l .inv .2) (c .wide .ensures .0))
 
 returns : tie.Need-returns Inv-loop μ-loop
-unfolding checksum
-returns c = let e : c .before .loop .i ≡ 510 = omega arith in ap (λ (s : ℕ). s % 65521) (c .before .loop .inv .2 ∙ ap (weighted (c .before .before .before .args .block .now)) e)
+returns c = let l = c .before .loop in l .inv .2 ∙ ap (weighted _) (le-antisymm (l .inv .0) (c .loop-test .left))
 
-pub checksum-spec : {M : Type 1} → statement M
-checksum-spec =
+pub weighted-sum-spec : {M : Type 1} → statement M
+weighted-sum-spec =
     tie.close
     (tie.spec
     Inv-loop

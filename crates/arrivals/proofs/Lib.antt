@@ -1,0 +1,5 @@
+-- The laws behind the proofs of `arrivals`.
+mod Masks
+mod Lines
+mod Rows
+mod Came

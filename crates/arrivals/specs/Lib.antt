@@ -1,0 +1,2 @@
+-- What the contracts of `arrivals` cite.
+pub mod Anew

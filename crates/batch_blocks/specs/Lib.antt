@@ -1,0 +1,2 @@
+-- What the contracts of `batch_blocks` cite.
+pub mod Blocks

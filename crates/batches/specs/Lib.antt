@@ -1,0 +1,2 @@
+-- What the contracts of `batches` cite.
+pub mod Progress

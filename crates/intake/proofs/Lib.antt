@@ -1,0 +1,2 @@
+-- The laws behind the proofs of `intake`.
+pub mod BatchLaws

@@ -1,0 +1,2 @@
+-- What the contracts of `policy_findings` cite.
+pub mod Candidates

@@ -1,0 +1,2 @@
+-- The two ways of a tally.
+pub mod Ways
