@@ -13,7 +13,7 @@ use block::{Settings, Tested, numbers};
 use entries::{FreeContainer, FreePolicy};
 
 // What came in a batch: the slots that containers and policies came to, and in each table the slot from which on the next search begins.
-#[derive(Drop)]
+#[derive(Clone, Copy)]
 pub struct Came {
     pub containers: [u64; 4],
     pub policies: [u64; 4],

@@ -5,7 +5,7 @@ ghost use Rattle.bitrow.specs.Bit.{bit};
 ghost use Rattle.bitrow.specs.Set.{insert, remove};
 
 // What a search for a number of a set finds.
-#[derive(Drop)]
+#[derive(Clone, Copy)]
 pub enum Found {
     At(usize),
     Nothing,

@@ -3,28 +3,28 @@
 pub mod numbers;
 
 // Where a test finds fault: nowhere, or at a position of the block.
-#[derive(Drop)]
+#[derive(Clone, Copy)]
 pub enum Fault {
     Nowhere,
     At(usize),
 }
 
 // A refusal: its number in document 01's list, and the position at fault in the block, 0 where there is none.
-#[derive(Drop)]
+#[derive(Clone, Copy)]
 pub struct Refusal {
     pub number: u8,
     pub position: usize,
 }
 
 // What a test answers: no refusal, or the first that applies.
-#[derive(Drop)]
+#[derive(Clone, Copy)]
 pub enum Tested {
     Passed,
     Refused(Refusal),
 }
 
 // The system key is 0 where no system label is set.
-#[derive(Drop)]
+#[derive(Clone, Copy)]
 pub struct Settings {
     pub user_key: u64,
     pub system_key: u64,

@@ -2,14 +2,14 @@
 use model::{ContainerSlot, PolicySlot};
 
 // The lowest free container slot, or that the table is full.
-#[derive(Drop)]
+#[derive(Clone, Copy)]
 pub enum FreeContainer {
     At(ContainerSlot),
     Full,
 }
 
 // The lowest free policy slot, or that the table is full.
-#[derive(Drop)]
+#[derive(Clone, Copy)]
 pub enum FreePolicy {
     At(PolicySlot),
     Full,

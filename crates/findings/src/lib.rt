@@ -8,7 +8,7 @@ ghost use Rattle.findings.specs.Steps.{next_step, cursor_place, place_at};
 use model::Finding;
 
 // A place in the list of findings: any three numbers.
-#[derive(Drop)]
+#[derive(Clone, Copy)]
 pub struct Cursor {
     pub kind: u16,
     pub a: u16,

@@ -50,11 +50,11 @@ pub pos-ltb : {x : ℕ} → (x ≡ 0 → ⊥) → ltb 0 x ≡ true
 pos-ltb {x} n = lt-ltb 0 x (omega arith)
 
 -- `if !f(..)`, by what f ensures
-pub said-no : {t x : Bool} → t ≡ x → not t ≡ true → x ≡ false
-said-no {t} e h = sym e ∙ not-true t h
+pub said-no : {t x : Bool} → t ≡ x → t ≡ false → x ≡ false
+said-no e h = sym e ∙ h
 
-pub said-yes : {t x : Bool} → t ≡ x → not t ≡ false → x ≡ true
-said-yes {t} e h = sym e ∙ not-false t h
+pub said-yes : {t x : Bool} → t ≡ x → t ≡ true → x ≡ true
+said-yes e h = sym e ∙ h
 
 -- ---- a run
 

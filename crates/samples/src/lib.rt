@@ -7,7 +7,7 @@ ghost use Rattle.samples.specs.Samples.{rising_labels, front, block_of_shape};
 
 // What a block is made of: its first four bytes, then nine labels at most with rising keys and value 1, then one byte put
 // anywhere before byte 510, and by how much the stored checksum is to be above the computed one.
-#[derive(Drop)]
+#[derive(Clone, Copy)]
 pub struct Shape {
     pub kind: u8,
     pub one: u8,

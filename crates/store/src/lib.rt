@@ -46,7 +46,7 @@ pub const ROW_WORDS: usize = 4;
 pub const WORDS: usize = ROWS + ROW_COUNT * ROW_WORDS;
 
 // A table of rows: row i of the table is row first + step * i of the rows of bits, for each i below count.
-#[derive(Drop)]
+#[derive(Clone, Copy)]
 pub struct Band {
     pub first: usize,
     pub step: usize,

@@ -9,23 +9,23 @@ use borrow.Author.Rules.{rules}
 use Rattle.access.proofs.clear_slot.Statement.{statement}
 use Rattle.access.proofs.clear_slot.Tie as tie
 
-abbrev invariant-loop : tie.invariant-loop
+abbrev invariant-loop : tie.invariant-loop-k
 invariant-loop memory₀ start n k₀ memory k = (length memory ≡ length memory₀) × (k ≤ n) × (memory ≡ slot_set memory₀ start k (λ i. 0))
 
-abbrev decreases-loop : tie.decreases-loop
+abbrev decreases-loop : tie.decreases-loop-k
 decreases-loop memory₀ start n k₀ memory k = n - k
 
-loop-holds : tie.Need-loop-init invariant-loop decreases-loop
+loop-holds : tie.Need-loop-k-init invariant-loop decreases-loop
 loop-holds c = (refl, search rules, sym (slot-none _ _ _))
 
-loop-again : tie.Need-loop-preserved invariant-loop decreases-loop
+loop-again : tie.Need-loop-k-preserved invariant-loop decreases-loop
 loop-again c =
-    let x = c.before.before.args in
-    let l = c.before.loop in
+    let x = c.args in
+    let l = c.loop-k in
     (length-set l.memory _ _ ∙ l.invariant.0, omega arith, slot_turn _ _ x.start l.k 0 (λ i. 0) l.invariant.2 refl)
 
 returns : tie.Need-returns invariant-loop decreases-loop
-returns c = let l = c.before.loop in let e : l.k ≡ c.before.before.args.n = omega arith in rw (← e) l.invariant.2
+returns c = let l = c.loop-k in let e : l.k ≡ c.args.n = omega arith in rw (← e) l.invariant.2
 
 pub clear_slot_spec : {M : Type 1} → statement M
 clear_slot_spec =

@@ -5,10 +5,10 @@ use borrow.Author.Rules.{rules}
 use Rattle.access.proofs.fill_row.Statement.{statement}
 use Rattle.access.proofs.fill_row.Tie as tie
 
-slice-write-part-2 : tie.Need-slice-write-part-2
+slice-write-part-2 : tie.Need-bounds-part-1
 slice-write-part-2 c = simp length-set (omega arith)
 
-slice-write-part-3 : tie.Need-slice-write-part-3
+slice-write-part-3 : tie.Need-bounds-part-2
 slice-write-part-3 c = simp length-set (omega arith)
 
 pub fill_row_spec : {M : Type 1} → statement M

@@ -10,8 +10,8 @@ use Rattle.access.proofs.set_row.Tie as tie
 returns : tie.Need-returns
 unfolding row_set
 returns c =
-    let x = c.before.before.before.before.before.args in
-    part_filled (row_start x.r) x.memory.now (four_words x.row) _ (omega arith) c.before.before.fill-row.ensures
+    let x = c.args in
+    part_filled (row_start x.r) x.memory.now (four_words x.row) _ (omega arith) c.fill_row.ensures
 
 pub set_row_spec : {M : Type 1} → statement M
 set_row_spec =

@@ -7,14 +7,14 @@ use Rattle.block_bytes.proofs.Zeros.{used-checksum}
 use Rattle.block_bytes.proofs.checksum_to.Statement.{statement}
 use Rattle.block_bytes.proofs.checksum_to.Tie as tie
 
-returns : tie.Need-returns
+returns : tie.Need-returns-then-end-eq36
 returns c =
     let d = c.before.before.before in
-    ap (λ (s : ℕ). s % 65521) (c.weighted-sum.ensures ∙ ap (weighted _) (sym c.before.if1.true)) ∙ sym (used-checksum _ _ d.requires.1)
+    ap (λ (s : ℕ). s % 65521) (c.weighted_sum.ensures ∙ ap (weighted _) (sym c.before.if-end-eq36.true)) ∙ sym (used-checksum _ _ d.requires.1)
 
-returns-2 : tie.Need-returns-2
+returns-2 : tie.Need-returns
 unfolding checksum
-returns-2 c = ap (λ (s : ℕ). s % 65521) c.weighted-sum2.ensures
+returns-2 c = ap (λ (s : ℕ). s % 65521) c.weighted_sum-2.ensures
 
 pub checksum_to_spec : {M : Type 1} → statement M
 checksum_to_spec = tie.close (tie.spec (λ c κs. search rules) returns (λ c κs. search rules) returns-2)

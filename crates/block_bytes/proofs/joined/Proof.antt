@@ -15,10 +15,10 @@ use Rattle.block.proofs.Faults.{faults-next, faults-done, clear-unless, clear-or
 use Rattle.block_bytes.proofs.joined.Statement.{statement}
 use Rattle.block_bytes.proofs.joined.Tie as tie
 
-abbrev invariant-loop : tie.invariant-loop
+abbrev invariant-loop : tie.invariant-loop-at
 invariant-loop block from to bits₀ at₀ bits at = clear (zero_fault block from to) ≡ (eqb bits 0 && clear (zero_fault block at to))
 
-abbrev decreases-loop : tie.decreases-loop
+abbrev decreases-loop : tie.decreases-loop-at
 decreases-loop block from to bits₀ at₀ bits at = to - at
 
 -- a join is zero exactly if both are
@@ -35,16 +35,16 @@ turn : (b : List ℕ) (bits i to : ℕ) → i < to → (eqb bits 0 && clear (zer
 unfolding zero_fault
 turn b bits i to h = rw (faults-next _ i to h, clear-or_else, clear-unless, join-zero, and_assoc)
 
-loop-again : tie.Need-loop-preserved invariant-loop decreases-loop
+loop-again : tie.Need-loop-at-preserved invariant-loop decreases-loop
 loop-again c =
-    let l = c.before.before.loop in
-    l.invariant ∙ turn _ l.bits l.at _ c.before.loop-test.true
+    let l = c.before.before.loop-at in
+    l.invariant ∙ turn _ l.bits l.at _ c.before.loop-at-test.true
 
 returns : tie.Need-returns invariant-loop decreases-loop
 unfolding zero_fault
 returns c =
-    let l = c.before.loop in
-    sym (l.invariant ∙ ap (λ x. eqb l.bits 0 && clear x) (faults-done _ l.at _ c.loop-test.false) ∙ and-true _)
+    let l = c.before.loop-at in
+    sym (l.invariant ∙ ap (λ x. eqb l.bits 0 && clear x) (faults-done _ l.at _ c.loop-at-test.false) ∙ and-true _)
 
 pub joined_spec : {M : Type 1} → statement M
 joined_spec =

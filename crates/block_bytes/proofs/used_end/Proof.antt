@@ -8,10 +8,10 @@ use Rattle.block_bytes.proofs.Zeros.{no_byte}
 use Rattle.block_bytes.proofs.used_end.Statement.{statement}
 use Rattle.block_bytes.proofs.used_end.Tie as tie
 
-returns : tie.Need-returns
-returns c = record { low = omega arith; high = omega arith; rest = clear_none _ (sym c.before.joined.ensures ∙ eq-eqb _ _ c.if1.true) }
+returns : tie.Need-returns-then-joined-eq0
+returns c = record { low = omega arith; high = omega arith; rest = clear_none _ (sym c.before.joined.ensures ∙ eq-eqb _ _ c.if-joined-eq0.true) }
 
-returns-2 : tie.Need-returns-2
+returns-2 : tie.Need-returns
 returns-2 c = record { low = omega arith; high = omega arith; rest = no_byte _ 510 }
 
 pub used_end_spec : {M : Type 1} → statement M

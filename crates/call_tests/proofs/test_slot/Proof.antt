@@ -11,26 +11,26 @@ use Rattle.call_tests.proofs.test_slot.Statement.{statement}
 use Rattle.call_tests.proofs.test_slot.Tie as tie
 
 -- a slot of the table lies within the memory
-within : (c : tie.Else1) → c.before.args.start + c.before.args.words * c.before.args.slot < length c.before.args.memory.now
-within c = slot-within _ _ _ _ _ c.before.requires c.if1.false
+within : (c : tie.Else-slots-slot) → c.args.start + c.args.words * c.args.slot < length c.args.memory.now
+within c = slot-within _ _ _ _ _ c.requires c.if-slots-slot.false
 
-returns : tie.Need-returns
-returns c = sym (test-beyond _ _ _ (le-leb _ _ c.if1.true))
+returns : tie.Need-returns-then-slots-slot
+returns c = sym (test-beyond _ _ _ (le-leb _ _ c.if-slots-slot.true))
 
-mul-if2 : tie.Need-overflow-mul-if2
+mul-if2 : tie.Need-overflow_mul-words
 mul-if2 c = let h = within c in search rules
 
-add-if2 : tie.Need-overflow-add-if2
+add-if2 : tie.Need-overflow_add-start
 add-if2 c = let h = within c in search rules
 
-mul-if2-2 : tie.Need-overflow-mul-if2-2
+mul-if2-2 : tie.Need-offset_bounds-memory-start
 mul-if2-2 c = let h = within c in search rules
 
-returns-2 : tie.Need-returns-2
-returns-2 c = sym (test-within _ _ _ true (lt-leb _ _ c.before.before.if1.false) (zero-is-free _ _ _ _ c.if2.true))
+returns-2 : tie.Need-returns-then-memory-start-eq0
+returns-2 c = sym (test-within _ _ _ true (lt-leb _ _ c.if-slots-slot.false) (zero-is-free _ _ _ _ c.if-memory-start-eq0.true))
 
-returns-3 : tie.Need-returns-3
-returns-3 c = sym (test-within _ _ _ false (lt-leb _ _ c.before.before.if1.false) (taken_at _ _ _ _ c.if2.false))
+returns-3 : tie.Need-returns
+returns-3 c = sym (test-within _ _ _ false (lt-leb _ _ c.if-slots-slot.false) (taken_at _ _ _ _ c.if-memory-start-eq0.false))
 
 pub test_slot_spec : {M : Type 1} → statement M
 test_slot_spec =

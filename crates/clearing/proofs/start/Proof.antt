@@ -7,9 +7,7 @@ use Rattle.clearing.proofs.start.Tie as tie
 
 returns : tie.Need-returns
 returns c =
-    let a = c.before.before in
-    let b = a.before.before.before.before in
-    started _ _ b.before.before.before.requires b.clear.ensures a.set-settings.ensures (λ k. omega (arith, c.slice-known3.given k))
+    started _ _ c.requires c.clear.ensures c.set_settings.ensures (λ k. omega (arith, c.slice_known-3-1.given k))
 
 pub start_spec : {M : Type 1} → statement M
 start_spec = tie.close (tie.spec (λ c κs. search rules) (λ c κs. search rules) (λ c. search rules) returns)

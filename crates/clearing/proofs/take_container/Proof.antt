@@ -6,18 +6,15 @@ use borrow.Author.Rules.{rules}
 use Rattle.clearing.proofs.take_container.Statement.{statement}
 use Rattle.clearing.proofs.take_container.Tie as tie
 
-clear-slot-requires : tie.Need-clear-slot-requires
-clear-slot-requires c κs = omega (arith, formed-whole _ c.before.before.requires.0)
+clear-slot-requires : tie.Need-clear_slot-requires
+clear-slot-requires c κs = omega (arith, formed-whole _ c.requires.0)
 
-store-bits-requires : tie.Need-store-bits-requires
-store-bits-requires c κs = omega (arith, formed-whole _ c.before.before.before.before.before.before.before.requires.0)
+store-bits-requires : tie.Need-store_bits-requires
+store-bits-requires c κs = omega (arith, formed-whole _ c.requires.0)
 
 returns : tie.Need-returns
 returns c =
-    let a = c.before.before in
-    let b = a.before.before.before.before.before in
-    let p = b.before.before.before in
-    container-taken _ p.requires.0 _ p.requires.1 _ a.before.before.none.ensures b.clear-slot.ensures a.store-bits.ensures (λ k. omega (arith, c.slice-known3.given k))
+    container-taken _ c.requires.0 _ c.requires.1 _ c.none-clear.ensures c.clear_slot.ensures c.store_bits.ensures (λ k. omega (arith, c.slice_known-3-1.given k))
 
 pub take_container_spec : {M : Type 1} → statement M
 take_container_spec =

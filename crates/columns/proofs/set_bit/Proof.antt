@@ -9,8 +9,8 @@ use Rattle.columns.proofs.set_bit.Tie as tie
 returns : tie.Need-returns
 unfolding bit_set
 returns c =
-    let x = c.before.before.before.args in
-    ap (set x.memory.now (bit_word x.r x.b)) c.with-bit.ensures
+    let x = c.args in
+    ap (set x.memory.now (bit_word x.r x.b)) c.with_bit.ensures
 
 pub set_bit_spec : {M : Type 1} → statement M
 set_bit_spec =

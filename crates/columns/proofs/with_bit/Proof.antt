@@ -4,10 +4,10 @@ use borrow.Author.Rules.{rules}
 use Rattle.columns.proofs.with_bit.Statement.{statement}
 use Rattle.columns.proofs.with_bit.Tie as tie
 
-returns : tie.Need-returns
+returns : tie.Need-returns-then-value
 returns c = bit-put _ _ _ (search rules)
 
-returns-2 : tie.Need-returns-2
+returns-2 : tie.Need-returns-else-value
 returns-2 c = bit_cut _ _ _ (search rules)
 
 pub with_bit_spec : {M : Type 1} → statement M

@@ -16,10 +16,7 @@ stored m c row column selected allowed p q r s = cc
 
 returns : tie.Need-returns
 returns c =
-    let third = c.before.before in
-    let second = third.before.before.before.before in
-    let first = second.before.before.before.before in
-    stored _ _ _ _ _ _ first.before.before.before.before.set-row.ensures first.set-column.ensures second.set-column2.ensures third.set-column3.ensures
+    stored _ _ _ _ _ _ c.set_row.ensures c.set_column.ensures c.set_column-2.ensures c.set_column-3.ensures
 
 pub store_bits_spec : {M : Type 1} → statement M
 store_bits_spec =

@@ -11,53 +11,53 @@ use borrow.Author.Rules.{rules}
 use Rattle.digits.proofs.put_digits.Statement.{statement}
 use Rattle.digits.proofs.put_digits.Tie as tie
 
-abbrev invariant-loop : tie.invariant-loop
+abbrev invariant-loop : tie.invariant-loop-rest
 invariant-loop out at digits₀ n end rest₀ i₀ digits rest i = (length digits ≡ length digits₀) × Digits n digits rest i
 
-abbrev decreases-loop : tie.decreases-loop
+abbrev decreases-loop : tie.decreases-loop-rest
 decreases-loop out at digits₀ n end rest₀ i₀ digits rest i = rest
 
-loop-holds : tie.Need-loop-init invariant-loop decreases-loop
-loop-holds c = let g = c.before.before.well-formed in let w : c.before.before.args.n < 2 ^ 64 = omega (arith, g) in (search rules, digits-none c.before.before.args.n c.before.before.args.digits.now w c.before.before.requires.1)
+loop-holds : tie.Need-loop-rest-init invariant-loop decreases-loop
+loop-holds c = let g = c.well_formed in let w : c.args.n < 2 ^ 64 = omega (arith, g) in (search rules, digits-none c.args.n c.args.digits.now w c.requires.1)
 
-slice-write-digits : tie.Need-slice-write-digits invariant-loop decreases-loop
-slice-write-digits c = let g = c.before.loop.invariant.1 in omega (arith, g.size, g.within)
+slice-write-digits : tie.Need-bounds-digits-i invariant-loop decreases-loop
+slice-write-digits c = let g = c.loop-rest.invariant.1 in omega (arith, g.size, g.within)
 
-sub-i : tie.Need-overflow-sub-i invariant-loop decreases-loop
-sub-i c = let h = digits-next _ _ _ _ c.loop-test.true c.before.loop.invariant.1 in omega (arith, h.0)
+sub-i : tie.Need-overflow_sub-i invariant-loop decreases-loop
+sub-i c = let h = digits-next _ _ _ _ c.loop-rest-test.true c.loop-rest.invariant.1 in omega (arith, h.0)
 
-loop-again : tie.Need-loop-preserved invariant-loop decreases-loop
-loop-again c = (search rules, (digits-next _ _ _ _ c.loop-test.true c.before.loop.invariant.1).1)
+loop-again : tie.Need-loop-rest-preserved invariant-loop decreases-loop
+loop-again c = (search rules, (digits-next _ _ _ _ c.loop-rest-test.true c.loop-rest.invariant.1).1)
 
-slice-write-digits-2 : tie.Need-slice-write-digits-2 invariant-loop decreases-loop
-slice-write-digits-2 c = let g = c.before.loop.invariant.1 in omega (arith, g.size, g.within)
+slice-write-digits-2 : tie.Need-bounds-digits-i-2 invariant-loop decreases-loop
+slice-write-digits-2 c = let g = c.loop-rest.invariant.1 in omega (arith, g.size, g.within)
 
-sub-put-word : tie.Need-overflow-sub-put-word invariant-loop decreases-loop
-sub-put-word c = let g = c.before.before.loop.invariant.1 in omega (arith, g.size, g.within, length-set c.before.before.loop.digits c.before.before.loop.i (48 + c.before.before.loop.rest))
+sub-put-word : tie.Need-slice_bounds-put_word-count invariant-loop decreases-loop
+sub-put-word c = let g = c.loop-rest.invariant.1 in omega (arith, g.size, g.within, length-set c.loop-rest.digits c.loop-rest.i (48 + c.loop-rest.rest))
 
-part-put-word-start : tie.Need-slice-bounds-put-word-start invariant-loop decreases-loop
-part-put-word-start c = let g = c.before.before.before.loop.invariant.1 in omega (arith, g.size, g.within, length-set c.before.before.before.loop.digits c.before.before.before.loop.i (48 + c.before.before.before.loop.rest))
+part-put-word-start : tie.Need-slice_bounds-put_word-start invariant-loop decreases-loop
+part-put-word-start c = let g = c.loop-rest.invariant.1 in omega (arith, g.size, g.within, length-set c.loop-rest.digits c.loop-rest.i (48 + c.loop-rest.rest))
 
-part-put-word-end : tie.Need-slice-bounds-put-word-end invariant-loop decreases-loop
-part-put-word-end c = let g = c.before.before.before.loop.invariant.1 in omega (arith, g.size, g.within, length-set c.before.before.before.loop.digits c.before.before.before.loop.i (48 + c.before.before.before.loop.rest))
+part-put-word-end : tie.Need-slice_bounds-put_word-end invariant-loop decreases-loop
+part-put-word-end c = let g = c.loop-rest.invariant.1 in omega (arith, g.size, g.within, length-set c.loop-rest.digits c.loop-rest.i (48 + c.loop-rest.rest))
 
-put-word-requires : tie.Need-put-word-requires invariant-loop decreases-loop
+put-word-requires : tie.Need-put_word-requires invariant-loop decreases-loop
 put-word-requires c κs =
-    let g = c.before.before.before.before.loop.invariant.1 in
-    let d = set c.before.before.before.before.loop.digits c.before.before.before.before.loop.i (48 + c.before.before.before.before.loop.rest) in
-    let n = length-set c.before.before.before.before.loop.digits c.before.before.before.before.loop.i (48 + c.before.before.before.before.loop.rest) in
-    let w : c.before.before.before.before.loop.rest < 10 = omega (arith, c.before.before.before.loop-test.false) in
-    omega (arith, g.size, g.within, n, ap length (tail_of d c.before.before.before.before.loop.i (length d) (omega arith) ∙ digits-done _ _ _ _ w g))
+    let g = c.loop-rest.invariant.1 in
+    let d = set c.loop-rest.digits c.loop-rest.i (48 + c.loop-rest.rest) in
+    let n = length-set c.loop-rest.digits c.loop-rest.i (48 + c.loop-rest.rest) in
+    let w : c.loop-rest.rest < 10 = omega (arith, c.loop-rest-test.false) in
+    omega (arith, g.size, g.within, n, ap length (tail_of d c.loop-rest.i (length d) (omega arith) ∙ digits-done _ _ _ _ w g))
 
 returns : tie.Need-returns invariant-loop decreases-loop
 returns c =
-    let l = c.before.before.before.before.before.before.before.loop in
+    let l = c.loop-rest in
     let g = l.invariant.1 in
     let d = set l.digits l.i (48 + l.rest) in
     let n = length-set l.digits l.i (48 + l.rest) in
-    let w : l.rest < 10 = omega (arith, c.before.before.before.before.before.before.loop-test.false) in (
-      puts-as c.before.before.put_word.ensures.0 (ap (λ (x : List ℕ). ended x c.before.before.before.before.before.before.before.before.before.before.args.end) (tail_of d l.i _ (omega (arith, n)) ∙ digits-done _ _ _ _ w g)),
-      omega (arith, c.before.before.put_word.ensures.1, g.size, g.within, n, length-drop l.i d),
+    let w : l.rest < 10 = omega (arith, c.loop-rest-test.false) in (
+      puts-as c.put_word.ensures.0 (ap (λ (x : List ℕ). ended x c.args.end) (tail_of d l.i _ (omega (arith, n)) ∙ digits-done _ _ _ _ w g)),
+      omega (arith, c.put_word.ensures.1, g.size, g.within, n, length-drop l.i d),
     )
 
 pub put_digits_spec : {M : Type 1} → statement M

@@ -11,40 +11,34 @@ use Rattle.entry_blocks.proofs.write_container.Statement.{statement}
 use Rattle.entry_blocks.proofs.write_container.Tie as tie
 
 -- the function's entry
-abbrev start : tie.After-put-number → tie.Start
+abbrev start : tie.After-put_number-kind → tie.Start
 start c = c.before.before.before.before.before
 
 few : (c : tie.Start) → word_at c.args.memory.now (container_start c.args.slot.0) ≤ container_words
 few c = formed-head _ c.requires.0 _ c.requires.1
 
 -- where the first number was put
-abbrev numbered : tie.After-put-labels → tie.After-put-number
+abbrev numbered : tie.After-put_labels-labels → tie.After-put_number-kind
 numbered c = c.before.before.before.before.before.before.before.before
 
-put-number-requires : tie.Need-put-number-requires
-put-number-requires c κs = let s = c.before.before.before.before in (begun s.requires.3, omega arith, omega (arith, few s))
+put-number-requires : tie.Need-put_number-kind-requires
+put-number-requires c κs = (begun c.requires.3, omega arith, omega (arith, few c.before.before.before.before))
 
-put-labels-requires : tie.Need-put-labels-requires
+put-labels-requires : tie.Need-put_labels-labels-requires
 put-labels-requires c κs =
-    let y = c.before.before.before in
-    let s = start y.before.before.before.before in
-    (container-fits _ s.pre.0 _ s.pre.1, y.put-number2.ensures.summed)
+    let s = start c.before.before.before.before.before.before.before in
+    (container-fits _ s.requires.0 _ s.requires.1, c.put_number-unused.ensures.summed)
 
 seal-requires : tie.Need-seal-requires
 seal-requires c κs =
-    let z = c.before.before.before in
-    let s = start (numbered z) in
-    part-summed s.args.memory.now (container_start s.args.slot.0) z.put-labels.ensures
+    let s = start (numbered c.before.before.before) in
+    part-summed s.args.memory.now (container_start s.args.slot.0) c.put_labels-labels.ensures
 
 returns : tie.Need-returns
 returns c =
-    let w = c.before.before in
-    let z = w.before.before.before.before in
-    let y = z.before.before.before.before in
-    let x = y.before.before.before.before in
-    let s = start x in
+    let s = start c.before.before.before.before.before.before.before.before.before.before.before.before.before.before in
     container-block _ _ (part_count s.args.memory.now (container_start s.args.slot.0)) (omega (arith, few s))
-    x.put-number.ensures y.put-number2.ensures z.put-labels.ensures w.seal.ensures
+    c.put_number-kind.ensures c.put_number-unused.ensures c.put_labels-labels.ensures c.seal.ensures
 
 pub write_container_spec : {M : Type 1} → statement M
 write_container_spec =

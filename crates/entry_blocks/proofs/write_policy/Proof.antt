@@ -14,53 +14,45 @@ heads : (c : tie.Start) → PolicyHeads c.args.memory.now c.args.slot.0
 heads c = standing-heads _ c.requires.0 _ c.requires.1 c.requires.2
 
 -- the function's entry
-abbrev start : tie.After-put-number → tie.Start
+abbrev start : tie.After-put_number-direction → tie.Start
 start c = c.before.before.before.before.before.before.before
 
 -- where the first number was put
-abbrev numbered : tie.After-put-labels → tie.After-put-number
+abbrev numbered : tie.After-put_labels-selected → tie.After-put_number-direction
 numbered c = c.before.before.before.before.before.before.before.before
 
-put-number-requires : tie.Need-put-number-requires
-put-number-requires c κs = let s = c.before.before.before.before.before.before in (begun s.requires.3, omega arith, omega (arith, heads s))
+put-number-requires : tie.Need-put_number-direction-requires
+put-number-requires c κs = (begun c.requires.3, omega arith, omega (arith, heads c.before.before.before.before.before.before))
 
-put-number-requires-2 : tie.Need-put-number-requires-2
-put-number-requires-2 c κs = let x = c.before.before.before in (x.put-number.ensures.summed, omega arith, omega (arith, heads (start x)))
+put-number-requires-2 : tie.Need-put_number-counts-requires
+put-number-requires-2 c κs = (c.put_number-direction.ensures.summed, omega arith, omega (arith, heads (start c.before.before.before)))
 
-put-labels-requires : tie.Need-put-labels-requires
+put-labels-requires : tie.Need-put_labels-selected-requires
 put-labels-requires c κs =
-    let y = c.before.before.before in
-    let s = start y.before.before.before.before in
-    (select-fits _ s.pre.0 _ s.pre.1, y.put-number2.ensures.summed)
+    let s = start c.before.before.before.before.before.before.before in
+    (select-fits _ s.requires.0 _ s.requires.1, c.put_number-counts.ensures.summed)
 
-put-labels-requires-2 : tie.Need-put-labels-requires-2
+put-labels-requires-2 : tie.Need-put_labels-allowed-requires
 put-labels-requires-2 c κs =
-    let z = c.before.before.before in
-    let s = start (numbered z) in (
-      allow-fits _ s.pre.0 _ s.pre.1 _ (omega (arith, heads s)),
-      part-summed s.args.memory.now (policy_start s.args.slot.0 + select_offset) z.put-labels.ensures,
+    let s = start (numbered c.before.before.before) in (
+      allow-fits _ s.requires.0 _ s.requires.1 _ (omega (arith, heads s)),
+      part-summed s.args.memory.now (policy_start s.args.slot.0 + select_offset) c.put_labels-selected.ensures,
     )
 
 seal-requires : tie.Need-seal-requires
 seal-requires c κs =
-    let v = c.before.before.before in
-    let s = start (numbered v.before.before.before.before) in
-    part-summed s.args.memory.now (policy_start s.args.slot.0 + allow_offset) v.put-labels2.ensures
+    let s = start (numbered c.before.before.before.before.before.before.before) in
+    part-summed s.args.memory.now (policy_start s.args.slot.0 + allow_offset) c.put_labels-allowed.ensures
 
 returns : tie.Need-returns
 unfolding policy_at
 returns c =
-    let w = c.before.before in
-    let v = w.before.before.before.before in
-    let z = v.before.before.before.before in
-    let y = z.before.before.before.before in
-    let x = y.before.before.before.before in
-    let s = start x in
+    let s = start c.before.before.before.before.before.before.before.before.before.before.before.before.before.before.before.before.before.before in
     let m = s.args.memory.now in
     let q = s.args.slot.0 in
-    policy-block (policy_at m q) _ _ _ (standing-direction m s.pre.0 q s.pre.1 s.pre.2) (omega (arith, heads s))
+    policy-block (policy_at m q) _ _ _ (standing-direction m s.requires.0 q s.requires.1 s.requires.2) (omega (arith, heads s))
     (part_count m (policy_start q + select_offset)) (part_count m (policy_start q + allow_offset)) (omega (arith, heads s))
-    x.put-number.ensures y.put-number2.ensures z.put-labels.ensures v.put-labels2.ensures w.seal.ensures
+    c.put_number-direction.ensures c.put_number-counts.ensures c.put_labels-selected.ensures c.put_labels-allowed.ensures c.seal.ensures
 
 pub write_policy_spec : {M : Type 1} → statement M
 write_policy_spec =

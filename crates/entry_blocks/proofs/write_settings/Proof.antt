@@ -9,37 +9,31 @@ use Rattle.entry_blocks.proofs.write_settings.Statement.{statement}
 use Rattle.entry_blocks.proofs.write_settings.Tie as tie
 
 -- the function's entry
-abbrev start : tie.After-put-number → tie.Start
+abbrev start : tie.After-put_number-user → tie.Start
 start c = c.before.before.before.before.before
 
-add-put-number : tie.Need-overflow-add-put-number
-add-put-number c = let s = c.before.before.before.before in omega (arith, settings-small _ s.requires.0)
+add-put-number : tie.Need-overflow_add-memory
+add-put-number c = omega (arith, settings-small _ c.requires.0)
 
-put-number-requires : tie.Need-put-number-requires
-put-number-requires c κs = let s = c.before.before.before.before in (begun s.requires.1, omega arith, omega (arith, settings-small _ s.requires.0))
+put-number-requires : tie.Need-put_number-user-requires
+put-number-requires c κs = (begun c.requires.1, omega arith, omega (arith, settings-small _ c.requires.0))
 
-mul-put-number-2 : tie.Need-overflow-mul-put-number-2
-mul-put-number-2 c = let s = start c.before.before.before.before in omega (arith, settings-small _ s.pre.0)
+mul-put-number-2 : tie.Need-overflow_mul-memory
+mul-put-number-2 c = let s = start c.before.before.before.before in omega (arith, settings-small _ s.requires.0)
 
-put-number-requires-2 : tie.Need-put-number-requires-2
+put-number-requires-2 : tie.Need-put_number-system-requires
 put-number-requires-2 c κs =
-    let x = c.before.before.before.before in
-    (x.put-number.ensures.summed, omega arith, omega (arith, settings-small _ (start x).requires.0))
+    (c.put_number-user.ensures.summed, omega arith, omega (arith, settings-small _ (start c.before.before.before.before).requires.0))
 
-put-number-requires-3 : tie.Need-put-number-requires-3
+put-number-requires-3 : tie.Need-put_number-value-requires
 put-number-requires-3 c κs =
-    let y = c.before.before.before.before in
-    (y.put-number2.ensures.summed, omega arith, (settings-small _ (start y.before.before.before.before.before).requires.0).2)
+    (c.put_number-system.ensures.summed, omega arith, (settings-small _ (start c.before.before.before.before.before.before.before.before.before).requires.0).2)
 
 returns : tie.Need-returns
 unfolding settings_in
 returns c =
-    let w = c.before.before in
-    let z = w.before.before.before.before in
-    let y = z.before.before.before.before.before in
-    let x = y.before.before.before.before.before in
-    settings-block (settings_in (start x).args.memory.now) (omega (arith, settings-small _ (start x).requires.0))
-    x.put-number.ensures y.put-number2.ensures z.put-number3.ensures w.seal.ensures
+    settings-block (settings_in (start c.before.before.before.before.before.before.before.before.before.before.before.before.before.before.before.before).args.memory.now) (omega (arith, settings-small _ (start c.before.before.before.before.before.before.before.before.before.before.before.before.before.before.before.before).requires.0))
+    c.put_number-user.ensures c.put_number-system.ensures c.put_number-value.ensures c.seal.ensures
 
 pub write_settings_spec : {M : Type 1} → statement M
 write_settings_spec =

@@ -7,13 +7,13 @@ use borrow.Author.Rules.{rules}
 use Rattle.entry_tests.proofs.container_ok.Statement.{statement}
 use Rattle.entry_tests.proofs.container_ok.Tie as tie
 
-returns : tie.Need-returns
+returns : tie.Need-returns-then-memory-at-eq0
 unfolding container_ok
-returns c = c.zeros.ensures ∙ sym (choose_yes _ _ _ (eq-eqb _ _ c.before.if1.true) refl)
+returns c = c.zeros.ensures ∙ sym (choose_yes _ _ _ (eq-eqb _ _ c.if-memory-at-eq0.true) refl)
 
-returns-2 : tie.Need-returns-2
+returns-2 : tie.Need-returns
 unfolding container_ok
-returns-2 c = c.part-ok.ensures ∙ sym (choose_no _ _ _ (ne_eqb _ _ c.before.if1.false) refl)
+returns-2 c = c.part_ok.ensures ∙ sym (choose_no _ _ _ (ne_eqb _ _ c.if-memory-at-eq0.false) refl)
 
 pub container_ok_spec : {M : Type 1} → statement M
 container_ok_spec =

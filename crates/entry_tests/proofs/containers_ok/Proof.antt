@@ -7,28 +7,28 @@ use borrow.Author.Rules.{rules}
 use Rattle.entry_tests.proofs.containers_ok.Statement.{statement}
 use Rattle.entry_tests.proofs.containers_ok.Tie as tie
 
-abbrev invariant-loop : tie.invariant-loop
+abbrev invariant-loop : tie.invariant-loop-c
 invariant-loop memory c₀ c = containers_ok memory ≡ between (container_ok memory) c 256
 
-abbrev decreases-loop : tie.decreases-loop
+abbrev decreases-loop : tie.decreases-loop-c
 decreases-loop memory c₀ c = 256 - c
 
-loop-holds : tie.Need-loop-init invariant-loop decreases-loop
+loop-holds : tie.Need-loop-c-init invariant-loop decreases-loop
 unfolding containers_ok
 loop-holds c = refl
 
-returns : tie.Need-returns invariant-loop decreases-loop
+returns : tie.Need-returns-then-not-container_ok invariant-loop decreases-loop
 returns c =
-    let l = c.before.before.before.loop in
-    sym (l.invariant ∙ between-hit _ l.c _ c.before.before.loop-test.true (said-no c.before.container-ok.ensures c.if1.true))
+    let l = c.loop-c in
+    sym (l.invariant ∙ between-hit _ l.c _ c.loop-c-test.true (said-no c.container_ok.ensures c.if-not-container_ok.true))
 
-loop-again : tie.Need-loop-preserved invariant-loop decreases-loop
+loop-again : tie.Need-loop-c-preserved invariant-loop decreases-loop
 loop-again c =
-    let l = c.before.before.before.loop in
-    l.invariant ∙ between-skip _ l.c _ c.before.before.loop-test.true (said-yes c.before.container-ok.ensures c.if1.false)
+    let l = c.loop-c in
+    l.invariant ∙ between-skip _ l.c _ c.loop-c-test.true (said-yes c.container_ok.ensures c.if-not-container_ok.false)
 
-returns-2 : tie.Need-returns-2 invariant-loop decreases-loop
-returns-2 c = sym (c.before.loop.invariant ∙ between_done _ c.before.loop.c _ c.loop-test.false)
+returns-2 : tie.Need-returns invariant-loop decreases-loop
+returns-2 c = sym (c.loop-c.invariant ∙ between_done _ c.loop-c.c _ c.loop-c-test.false)
 
 pub containers_ok_spec : {M : Type 1} → statement M
 containers_ok_spec =

@@ -7,28 +7,28 @@ use borrow.Author.Rules.{rules}
 use Rattle.entry_tests.proofs.policies_ok.Statement.{statement}
 use Rattle.entry_tests.proofs.policies_ok.Tie as tie
 
-abbrev invariant-loop : tie.invariant-loop
+abbrev invariant-loop : tie.invariant-loop-q
 invariant-loop memory q₀ q = policies_ok memory ≡ between (policy_ok memory) q 128
 
-abbrev decreases-loop : tie.decreases-loop
+abbrev decreases-loop : tie.decreases-loop-q
 decreases-loop memory q₀ q = 128 - q
 
-loop-holds : tie.Need-loop-init invariant-loop decreases-loop
+loop-holds : tie.Need-loop-q-init invariant-loop decreases-loop
 unfolding policies_ok
 loop-holds c = refl
 
-returns : tie.Need-returns invariant-loop decreases-loop
+returns : tie.Need-returns-then-not-policy_ok invariant-loop decreases-loop
 returns c =
-    let l = c.before.before.before.loop in
-    sym (l.invariant ∙ between-hit _ l.q _ c.before.before.loop-test.true (said-no c.before.policy-ok.ensures c.if1.true))
+    let l = c.loop-q in
+    sym (l.invariant ∙ between-hit _ l.q _ c.loop-q-test.true (said-no c.policy_ok.ensures c.if-not-policy_ok.true))
 
-loop-again : tie.Need-loop-preserved invariant-loop decreases-loop
+loop-again : tie.Need-loop-q-preserved invariant-loop decreases-loop
 loop-again c =
-    let l = c.before.before.before.loop in
-    l.invariant ∙ between-skip _ l.q _ c.before.before.loop-test.true (said-yes c.before.policy-ok.ensures c.if1.false)
+    let l = c.loop-q in
+    l.invariant ∙ between-skip _ l.q _ c.loop-q-test.true (said-yes c.policy_ok.ensures c.if-not-policy_ok.false)
 
-returns-2 : tie.Need-returns-2 invariant-loop decreases-loop
-returns-2 c = sym (c.before.loop.invariant ∙ between_done _ c.before.loop.q _ c.loop-test.false)
+returns-2 : tie.Need-returns invariant-loop decreases-loop
+returns-2 c = sym (c.loop-q.invariant ∙ between_done _ c.loop-q.q _ c.loop-q-test.false)
 
 pub policies_ok_spec : {M : Type 1} → statement M
 policies_ok_spec =

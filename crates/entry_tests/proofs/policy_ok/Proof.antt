@@ -7,21 +7,21 @@ use borrow.Author.Rules.{rules}
 use Rattle.entry_tests.proofs.policy_ok.Statement.{statement}
 use Rattle.entry_tests.proofs.policy_ok.Tie as tie
 
-returns : tie.Need-returns
+returns : tie.Need-returns-then-direction-eq0
 unfolding policy_ok
-returns c = c.zeros.ensures ∙ sym (choose_yes _ _ _ (eq-eqb _ _ c.before.if1.true) refl)
+returns c = c.zeros.ensures ∙ sym (choose_yes _ _ _ (eq-eqb _ _ c.if-direction-eq0.true) refl)
 
-returns-2 : tie.Need-returns-2
+returns-2 : tie.Need-returns-then-direction-gt2
 unfolding policy_ok
-returns-2 c = sym (choose_no _ _ _ (ne_eqb _ _ c.before.if1.false) (and-fails _ _ (lt-leb _ _ c.if2.true)))
+returns-2 c = sym (choose_no _ _ _ (ne_eqb _ _ c.if-direction-eq0.false) (and-fails _ _ (lt-leb _ _ c.if-direction-gt2.true)))
 
-returns-3 : tie.Need-returns-3
+returns-3 : tie.Need-returns-then-not-part_ok
 unfolding policy_ok
-returns-3 c = sym (choose_no _ _ _ (ne_eqb _ _ c.before.before.before.if1.false) (and-passes _ _ (le-leb _ _ c.before.before.if2.false) (and-fails _ _ (said-no c.before.part-ok.ensures c.if3.true))))
+returns-3 c = sym (choose_no _ _ _ (ne_eqb _ _ c.if-direction-eq0.false) (and-passes _ _ (le-leb _ _ c.if-direction-gt2.false) (and-fails _ _ (said-no c.part_ok.ensures c.if-not-part_ok.true))))
 
-returns-4 : tie.Need-returns-4
+returns-4 : tie.Need-returns
 unfolding policy_ok
-returns-4 c = c.part-ok2.ensures ∙ sym (choose_no _ _ _ (ne_eqb _ _ c.before.before.before.before.if1.false) (and-passes _ _ (le-leb _ _ c.before.before.before.if2.false) (and-passes _ _ (said-yes c.before.before.part-ok.ensures c.before.if3.false) refl)))
+returns-4 c = c.part_ok-2.ensures ∙ sym (choose_no _ _ _ (ne_eqb _ _ c.if-direction-eq0.false) (and-passes _ _ (le-leb _ _ c.if-direction-gt2.false) (and-passes _ _ (said-yes c.part_ok.ensures c.if-not-part_ok.false) refl)))
 
 pub policy_ok_spec : {M : Type 1} → statement M
 policy_ok_spec =

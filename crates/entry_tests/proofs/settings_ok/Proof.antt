@@ -5,17 +5,15 @@ use Rattle.entry_tests.proofs.Settings.{no-system, system}
 use Rattle.entry_tests.proofs.settings_ok.Statement.{statement}
 use Rattle.entry_tests.proofs.settings_ok.Tie as tie
 
-returns : tie.Need-returns
+returns : tie.Need-returns-then-key-eq0
 unfolding settings_in
 returns c =
-    let user = c.before.before.before in
-    no-system (settings_in user.before.before.before.args.memory.now) user.within.ensures c.if1.true
+    no-system (settings_in c.args.memory.now) c.within-user.ensures c.if-key-eq0.true
 
-returns-2 : tie.Need-returns-2
+returns-2 : tie.Need-returns
 unfolding settings_in
 returns-2 c =
-    let user = c.before.before.before.before in
-    system (settings_in user.before.before.before.args.memory.now) user.within.ensures c.within2.ensures c.before.if1.false
+    system (settings_in c.args.memory.now) c.within-user.ensures c.within-system.ensures c.if-key-eq0.false
 
 pub settings_ok_spec : {M : Type 1} → statement M
 settings_ok_spec =

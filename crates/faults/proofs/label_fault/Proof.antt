@@ -10,8 +10,8 @@ returns : tie.Need-returns
 unfolding label_fault
 returns c =
     or_else-same _ _ _ _ _ c.or_else.ensures
-    (unless-same _ _ _ _ c.before.before.before.unless.ensures (c.before.before.before.before.within.ensures ∙ ap (within 1 64) c.before.before.before.before.before.before.number_at.ensures.0))
-    (unless-same _ _ _ _ c.before.unless2.ensures (c.before.before.within2.ensures ∙ ap (within 1 65535) c.before.before.before.before.before.number-at2.ensures.0))
+    (unless-same _ _ _ _ c.unless.ensures (c.within.ensures ∙ ap (within 1 64) c.number_at-key.ensures.0))
+    (unless-same _ _ _ _ c.unless-2.ensures (c.within-2.ensures ∙ ap (within 1 65535) c.number_at-value.ensures.0))
 
 pub label_fault_spec : {M : Type 1} → statement M
 label_fault_spec =

@@ -8,28 +8,26 @@ use Rattle.block.proofs.Faults.{faults-hit, faults-skip, faults-done}
 use Rattle.faults.proofs.order_fault.Statement.{statement}
 use Rattle.faults.proofs.order_fault.Tie as tie
 
-abbrev invariant-loop : tie.invariant-loop
+abbrev invariant-loop : tie.invariant-loop-k
 invariant-loop block at n k₀ k = (1 ≤ k) × (order_fault block at n ≡ first_between (λ i. rise_fault block (at + 4 * i)) k n)
 
-abbrev decreases-loop : tie.decreases-loop
+abbrev decreases-loop : tie.decreases-loop-k
 decreases-loop block at n k₀ k = n - k
 
-loop-holds : tie.Need-loop-init invariant-loop decreases-loop
+loop-holds : tie.Need-loop-k-init invariant-loop decreases-loop
 unfolding order_fault
 loop-holds c = search rules
 
-returns : tie.Need-returns invariant-loop decreases-loop
+returns : tie.Need-returns-in-At invariant-loop decreases-loop
 returns c =
-    let d = c.before.before.before in
-    sym (d.before.before.loop.invariant.1 ∙ faults-hit _ d.before.before.loop.k _ _ d.before.loop-test.true (sym d.rise-fault.ensures ∙ c.before.f.given.1))
+    sym (c.loop-k.invariant.1 ∙ faults-hit _ c.loop-k.k _ _ c.loop-k-test.true (sym c.rise_fault-f.ensures ∙ c.in-At.is))
 
-loop-again : tie.Need-loop-preserved invariant-loop decreases-loop
+loop-again : tie.Need-loop-k-preserved invariant-loop decreases-loop
 loop-again c =
-    let d = c.before.before in
-    (search rules, d.before.before.loop.invariant.1 ∙ faults-skip _ d.before.before.loop.k _ d.before.loop-test.true (sym d.rise-fault.ensures ∙ c.enum_told.given.1))
+    (search rules, c.loop-k.invariant.1 ∙ faults-skip _ c.loop-k.k _ c.loop-k-test.true (sym c.rise_fault-f.ensures ∙ c.in_default.is))
 
-returns-2 : tie.Need-returns-2 invariant-loop decreases-loop
-returns-2 c = sym (c.before.loop.invariant.1 ∙ faults-done _ c.before.loop.k _ c.loop-test.false)
+returns-2 : tie.Need-returns invariant-loop decreases-loop
+returns-2 c = sym (c.loop-k.invariant.1 ∙ faults-done _ c.loop-k.k _ c.loop-k-test.false)
 
 pub order_fault_spec : {M : Type 1} → statement M
 order_fault_spec =

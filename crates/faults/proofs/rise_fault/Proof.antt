@@ -11,8 +11,8 @@ use Rattle.faults.proofs.rise_fault.Tie as tie
 returns : tie.Need-returns
 unfolding rise_fault
 returns c =
-    let a = c.before.before.number_at in
-    let k = c.before.number-at2 in
+    let a = c.number_at-before in
+    let k = c.number_at-key in
     unless-same _ _ _ _ c.unless.ensures (ap (λ (x : ℕ). ltb x k.result) a.ensures.0 ∙ ap (ltb _) k.ensures.0)
 
 pub rise_fault_spec : {M : Type 1} → statement M

@@ -8,30 +8,30 @@ use Rattle.block.proofs.Faults.{faults-hit, faults-skip, faults-done, clear_none
 use Rattle.faults.proofs.zero_fault.Statement.{statement}
 use Rattle.faults.proofs.zero_fault.Tie as tie
 
-abbrev invariant-loop : tie.invariant-loop
+abbrev invariant-loop : tie.invariant-loop-i
 invariant-loop block from to i₀ i = zero_fault block from to ≡ zero_fault block i to
 
-abbrev decreases-loop : tie.decreases-loop
+abbrev decreases-loop : tie.decreases-loop-i
 decreases-loop block from to i₀ i = to - i
 
-returns : tie.Need-returns invariant-loop decreases-loop
-returns c = sym (clear_none _ (sym c.before.joined.ensures ∙ eq-eqb _ _ c.if1.true))
+returns : tie.Need-returns-then-joined-eq0 invariant-loop decreases-loop
+returns c = sym (clear_none _ (sym c.joined.ensures ∙ eq-eqb _ _ c.if-joined-eq0.true))
 
-returns-2 : tie.Need-returns-2 invariant-loop decreases-loop
+returns-2 : tie.Need-returns-then-block-i-ne0 invariant-loop decreases-loop
 unfolding zero_fault
 returns-2 c =
-    let l = c.before.before.before.loop in
-    sym (l.invariant ∙ faults-hit _ l.i _ _ c.before.before.loop-test.true (simp (ne_eqb _ _ c.if2.true)))
+    let l = c.loop-i in
+    sym (l.invariant ∙ faults-hit _ l.i _ _ c.loop-i-test.true (simp (ne_eqb _ _ c.if-block-i-ne0.true)))
 
-loop-again : tie.Need-loop-preserved invariant-loop decreases-loop
+loop-again : tie.Need-loop-i-preserved invariant-loop decreases-loop
 unfolding zero_fault
 loop-again c =
-    let l = c.before.before.before.loop in
-    l.invariant ∙ faults-skip _ l.i _ c.before.before.loop-test.true (simp (eq-eqb _ _ c.if2.false))
+    let l = c.loop-i in
+    l.invariant ∙ faults-skip _ l.i _ c.loop-i-test.true (simp (eq-eqb _ _ c.if-block-i-ne0.false))
 
-returns-3 : tie.Need-returns-3 invariant-loop decreases-loop
+returns-3 : tie.Need-returns invariant-loop decreases-loop
 unfolding zero_fault
-returns-3 c = sym (c.before.loop.invariant ∙ faults-done _ c.before.loop.i _ c.loop-test.false)
+returns-3 c = sym (c.loop-i.invariant ∙ faults-done _ c.loop-i.i _ c.loop-i-test.false)
 
 pub zero_fault_spec : {M : Type 1} → statement M
 zero_fault_spec =

@@ -4,14 +4,14 @@ use Rattle.label_table.proofs.RowLaws.{mark-found, mark-missed}
 use Rattle.label_marks.proofs.mark.Statement.{statement}
 use Rattle.label_marks.proofs.mark.Tie as tie
 
-returns : tie.Need-returns
+returns : tie.Need-returns-then-labels-h
 returns c =
     let s = c.before.before.before.before.before in
-    let p = c.before.before.before.before.place.ensures in
-    mark-found _ _ _ p.0 _ s.requires.0 p.1 s.requires.1 c.before.before.if1.true c.word-with.ensures
+    let p = c.before.before.before.before.place-h.ensures in
+    mark-found _ _ _ p.0 _ s.requires.0 p.1 s.requires.1 c.before.before.if-labels-h.true c.word_with.ensures
 
-returns-2 : tie.Need-returns-2
-returns-2 c = mark-missed _ _ _ c.before.before.place.ensures.0 c.before.before.before.requires.0 c.if1.false
+returns-2 : tie.Need-returns-else-labels-h
+returns-2 c = mark-missed _ _ _ c.before.before.place-h.ensures.0 c.before.before.before.requires.0 c.if-labels-h.false
 
 pub mark_spec : {M : Type 1} → statement M
 mark_spec =

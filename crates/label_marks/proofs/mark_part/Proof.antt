@@ -6,26 +6,26 @@ use Rattle.label_table.proofs.RowLaws.{Marking, marking-none, marking-next, mark
 use Rattle.label_marks.proofs.mark_part.Statement.{statement}
 use Rattle.label_marks.proofs.mark_part.Tie as tie
 
-abbrev invariant-loop : tie.invariant-loop
+abbrev invariant-loop : tie.invariant-loop-i
 invariant-loop rows₀ labels memory at c end i₀ rows i = Marking memory labels c at end rows₀ rows i
 
-abbrev decreases-loop : tie.decreases-loop
+abbrev decreases-loop : tie.decreases-loop-i
 decreases-loop rows₀ labels memory at c end i₀ rows i = end - i
 
-loop-holds : tie.Need-loop-init invariant-loop decreases-loop
+loop-holds : tie.Need-loop-i-init invariant-loop decreases-loop
 loop-holds c = marking-none _ _ _ _ c.before.before.requires.1
 
 mark-requires : tie.Need-mark-requires invariant-loop decreases-loop
 mark-requires c κs =
     let l = c.before.before.before in
     let p = l.before.before.before.requires in
-    (l.loop.invariant.shape, p.2)
+    (l.loop-i.invariant.shape, p.2)
 
-loop-again : tie.Need-loop-preserved invariant-loop decreases-loop
-loop-again c = let l = c.before.before.before in marking-next _ _ _ _ l.before.loop.invariant l.loop-test.true c.mark.ensures
+loop-again : tie.Need-loop-i-preserved invariant-loop decreases-loop
+loop-again c = let l = c.before.before.before in marking-next _ _ _ _ l.before.loop-i.invariant l.loop-i-test.true c.mark.ensures
 
 returns : tie.Need-returns invariant-loop decreases-loop
-returns c = marking-all _ _ _ _ c.before.loop.invariant (omega arith)
+returns c = marking-all _ _ _ _ c.before.loop-i.invariant (omega arith)
 
 pub mark_part_spec : {M : Type 1} → statement M
 mark_part_spec =

@@ -4,11 +4,11 @@ use Rattle.label_table.proofs.TableLaws.{entered-free, entered-taken}
 use Rattle.label_table.proofs.enter.Statement.{statement}
 use Rattle.label_table.proofs.enter.Tie as tie
 
-returns : tie.Need-returns
-returns c = entered-free _ _ c.before.before.place.ensures.0 c.if1.true
+returns : tie.Need-returns-then-labels-h-eq0
+returns c = entered-free _ _ c.before.before.place-h.ensures.0 c.if-labels-h-eq0.true
 
-returns-2 : tie.Need-returns-2
-returns-2 c = entered-taken _ _ c.before.before.place.ensures.0 c.if1.false
+returns-2 : tie.Need-returns-else-labels-h-eq0
+returns-2 c = entered-taken _ _ c.before.before.place-h.ensures.0 c.if-labels-h-eq0.false
 
 pub enter_spec : {M : Type 1} → statement M
 enter_spec =

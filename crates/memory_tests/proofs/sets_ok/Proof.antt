@@ -8,33 +8,33 @@ use borrow.Author.Rules.{rules}
 use Rattle.memory_tests.proofs.sets_ok.Statement.{statement}
 use Rattle.memory_tests.proofs.sets_ok.Tie as tie
 
-abbrev invariant-loop : tie.invariant-loop
+abbrev invariant-loop : tie.invariant-loop-q
 invariant-loop memory standing q₀ q = sets_ok memory (bit_at standing) ≡ between (set_rows_ok memory (bit_at standing)) q 128
 
-abbrev decreases-loop : tie.decreases-loop
+abbrev decreases-loop : tie.decreases-loop-q
 decreases-loop memory standing q₀ q = 128 - q
 
-loop-holds : tie.Need-loop-init invariant-loop decreases-loop
+loop-holds : tie.Need-loop-q-init invariant-loop decreases-loop
 unfolding sets_ok
 loop-holds c = refl
 
-returns : tie.Need-returns invariant-loop decreases-loop
+returns : tie.Need-returns-then-not-row_ok invariant-loop decreases-loop
 returns c =
-    let l = c.before.before.before.before.loop in
-    sym (l.invariant ∙ between-hit _ l.q _ c.before.before.before.loop-test.true (and-fails _ _ (said-no c.before.row_ok.ensures c.if1.true)))
+    let l = c.loop-q in
+    sym (l.invariant ∙ between-hit _ l.q _ c.loop-q-test.true (and-fails _ _ (said-no c.row_ok.ensures c.if-not-row_ok.true)))
 
-returns-2 : tie.Need-returns-2 invariant-loop decreases-loop
+returns-2 : tie.Need-returns-then-not-row_ok-2 invariant-loop decreases-loop
 returns-2 c =
-    let l = c.before.before.before.before.before.before.loop in
-    sym (l.invariant ∙ between-hit _ l.q _ c.before.before.before.before.before.loop-test.true (and-passes _ _ (said-yes c.before.before.before.row_ok.ensures c.before.before.if1.false) (said-no c.before.row-ok2.ensures c.if2.true)))
+    let l = c.loop-q in
+    sym (l.invariant ∙ between-hit _ l.q _ c.loop-q-test.true (and-passes _ _ (said-yes c.row_ok.ensures c.if-not-row_ok.false) (said-no c.row_ok-in-loop-q.ensures c.if-not-row_ok-2.true)))
 
-loop-again : tie.Need-loop-preserved invariant-loop decreases-loop
+loop-again : tie.Need-loop-q-preserved invariant-loop decreases-loop
 loop-again c =
-    let l = c.before.before.before.before.before.before.loop in
-    l.invariant ∙ between-skip _ l.q _ c.before.before.before.before.before.loop-test.true (and-passes _ _ (said-yes c.before.before.before.row_ok.ensures c.before.before.if1.false) (said-yes c.before.row-ok2.ensures c.if2.false))
+    let l = c.loop-q in
+    l.invariant ∙ between-skip _ l.q _ c.loop-q-test.true (and-passes _ _ (said-yes c.row_ok.ensures c.if-not-row_ok.false) (said-yes c.row_ok-in-loop-q.ensures c.if-not-row_ok-2.false))
 
-returns-3 : tie.Need-returns-3 invariant-loop decreases-loop
-returns-3 c = sym (c.before.loop.invariant ∙ between_done _ c.before.loop.q _ c.loop-test.false)
+returns-3 : tie.Need-returns invariant-loop decreases-loop
+returns-3 c = sym (c.loop-q.invariant ∙ between_done _ c.loop-q.q _ c.loop-q-test.false)
 
 pub sets_ok_spec : {M : Type 1} → statement M
 sets_ok_spec =

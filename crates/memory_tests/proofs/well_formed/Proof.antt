@@ -7,53 +7,48 @@ use borrow.Author.Rules.{rules}
 use Rattle.memory_tests.proofs.well_formed.Statement.{statement}
 use Rattle.memory_tests.proofs.well_formed.Tie as tie
 
-returns : tie.Need-returns
-returns c = sym (not-whole _ c.if1.true)
+returns : tie.Need-returns-then-memory-ne-WORDS
+returns c = sym (not-whole _ c.if-memory-ne-WORDS.true)
 
-returns-2 : tie.Need-returns-2
+returns-2 : tie.Need-returns-then-not-settings_ok
 unfolding tests
 returns-2 c =
-    let b = c.before.before in
-    decided _ b.if1.false b.before.shared-slice-known.given
-    (and-fails _ _ (said-no c.before.settings-ok.ensures c.if2.true))
+    decided _ c.if-memory-ne-WORDS.false c.shared_slice_known-1.given
+    (and-fails _ _ (said-no c.settings_ok.ensures c.if-not-settings_ok.true))
 
-returns-3 : tie.Need-returns-3
+returns-3 : tie.Need-returns-then-not-containers_ok
 unfolding tests
 returns-3 c =
-    let b = c.before.before.before.before in
-    decided _ b.if1.false b.before.shared-slice-known.given
-    (and-passes _ _ (said-yes c.before.before.before.settings-ok.ensures c.before.before.if2.false)
-    (and-fails _ _ (said-no c.before.containers-ok.ensures c.if3.true)))
+    decided _ c.if-memory-ne-WORDS.false c.shared_slice_known-1.given
+    (and-passes _ _ (said-yes c.settings_ok.ensures c.if-not-settings_ok.false)
+    (and-fails _ _ (said-no c.containers_ok.ensures c.if-not-containers_ok.true)))
 
-returns-4 : tie.Need-returns-4
+returns-4 : tie.Need-returns-then-not-policies_ok
 unfolding tests
 returns-4 c =
-    let b = c.before.before.before.before.before.before in
-    decided _ b.if1.false b.before.shared-slice-known.given
-    (and-passes _ _ (said-yes c.before.before.before.before.before.settings-ok.ensures c.before.before.before.before.if2.false)
-    (and-passes _ _ (said-yes c.before.before.before.containers-ok.ensures c.before.before.if3.false)
-    (and-fails _ _ (said-no c.before.policies-ok.ensures c.if4.true))))
+    decided _ c.if-memory-ne-WORDS.false c.shared_slice_known-1.given
+    (and-passes _ _ (said-yes c.settings_ok.ensures c.if-not-settings_ok.false)
+    (and-passes _ _ (said-yes c.containers_ok.ensures c.if-not-containers_ok.false)
+    (and-fails _ _ (said-no c.policies_ok.ensures c.if-not-policies_ok.true))))
 
-returns-5 : tie.Need-returns-5
+returns-5 : tie.Need-returns-then-not-matrix_ok
 unfolding tests
 returns-5 c =
-    let b = c.before.before.before.before.before.before.before.before.before in
-    decided _ b.if1.false b.before.shared-slice-known.given
-    (and-passes _ _ (said-yes c.before.before.before.before.before.before.before.before.settings-ok.ensures c.before.before.before.before.before.before.before.if2.false)
-    (and-passes _ _ (said-yes c.before.before.before.before.before.before.containers-ok.ensures c.before.before.before.before.before.if3.false)
-    (and-passes _ _ (said-yes c.before.before.before.before.policies-ok.ensures c.before.before.before.if4.false)
-    (and-fails _ _ (said-no (c.before.matrix-ok.ensures ∙ ap (matrix_ok _) c.before.before.containers-standing.ensures) c.if5.true)))))
+    decided _ c.if-memory-ne-WORDS.false c.shared_slice_known-1.given
+    (and-passes _ _ (said-yes c.settings_ok.ensures c.if-not-settings_ok.false)
+    (and-passes _ _ (said-yes c.containers_ok.ensures c.if-not-containers_ok.false)
+    (and-passes _ _ (said-yes c.policies_ok.ensures c.if-not-policies_ok.false)
+    (and-fails _ _ (said-no (c.matrix_ok.ensures ∙ ap (matrix_ok _) c.containers_standing-standing.ensures) c.if-not-matrix_ok.true)))))
 
-returns-6 : tie.Need-returns-6
+returns-6 : tie.Need-returns
 unfolding tests
 returns-6 c =
-    let b = c.before.before.before.before.before.before.before.before.before.before in
-    decided _ b.if1.false b.before.shared-slice-known.given
-    (and-passes _ _ (said-yes c.before.before.before.before.before.before.before.before.before.settings-ok.ensures c.before.before.before.before.before.before.before.before.if2.false)
-    (and-passes _ _ (said-yes c.before.before.before.before.before.before.before.containers-ok.ensures c.before.before.before.before.before.before.if3.false)
-    (and-passes _ _ (said-yes c.before.before.before.before.before.policies-ok.ensures c.before.before.before.before.if4.false)
-    (and-passes _ _ (said-yes (c.before.before.matrix-ok.ensures ∙ ap (matrix_ok _) c.before.before.before.containers-standing.ensures) c.before.if5.false)
-    (sym (c.sets-ok.ensures ∙ ap (sets_ok _) c.before.before.before.containers-standing.ensures))))))
+    decided _ c.if-memory-ne-WORDS.false c.shared_slice_known-1.given
+    (and-passes _ _ (said-yes c.settings_ok.ensures c.if-not-settings_ok.false)
+    (and-passes _ _ (said-yes c.containers_ok.ensures c.if-not-containers_ok.false)
+    (and-passes _ _ (said-yes c.policies_ok.ensures c.if-not-policies_ok.false)
+    (and-passes _ _ (said-yes (c.matrix_ok.ensures ∙ ap (matrix_ok _) c.containers_standing-standing.ensures) c.if-not-matrix_ok.false)
+    (sym (c.sets_ok.ensures ∙ ap (sets_ok _) c.containers_standing-standing.ensures))))))
 
 pub well_formed_spec : {M : Type 1} → statement M
 well_formed_spec =

@@ -7,24 +7,24 @@ use borrow.Author.Rules.{rules}
 use Rattle.part_tests.proofs.labels_ok.Statement.{statement}
 use Rattle.part_tests.proofs.labels_ok.Tie as tie
 
-abbrev invariant-loop : tie.invariant-loop
+abbrev invariant-loop : tie.invariant-loop-i
 invariant-loop memory from to last₀ i₀ last i = labels_between memory from to ≡ labels_ok memory last i (to - i)
 
-abbrev decreases-loop : tie.decreases-loop
+abbrev decreases-loop : tie.decreases-loop-i
 decreases-loop memory from to last₀ i₀ last i = to - i
 
-returns : tie.Need-returns invariant-loop decreases-loop
+returns : tie.Need-returns-then-not-label_ok invariant-loop decreases-loop
 returns c =
-    let l = c.before.before.before.before.loop in
-    sym (l.invariant ∙ labels-hit _ l.last l.i _ c.before.before.before.loop-test.true (said-no c.before.label-ok.ensures c.if1.true))
+    let l = c.loop-i in
+    sym (l.invariant ∙ labels-hit _ l.last l.i _ c.loop-i-test.true (said-no c.label_ok.ensures c.if-not-label_ok.true))
 
-loop-again : tie.Need-loop-preserved invariant-loop decreases-loop
+loop-again : tie.Need-loop-i-preserved invariant-loop decreases-loop
 loop-again c =
-    let l = c.before.before.before.before.loop in
-    l.invariant ∙ labels-skip _ l.last l.i _ c.before.before.before.loop-test.true (said-yes c.before.label-ok.ensures c.if1.false)
+    let l = c.loop-i in
+    l.invariant ∙ labels-skip _ l.last l.i _ c.loop-i-test.true (said-yes c.label_ok.ensures c.if-not-label_ok.false)
 
-returns-2 : tie.Need-returns-2 invariant-loop decreases-loop
-returns-2 c = sym (c.before.loop.invariant ∙ labels-done _ c.before.loop.last c.before.loop.i _ c.loop-test.false)
+returns-2 : tie.Need-returns invariant-loop decreases-loop
+returns-2 c = sym (c.loop-i.invariant ∙ labels-done _ c.loop-i.last c.loop-i.i _ c.loop-i-test.false)
 
 pub labels_ok_spec : {M : Type 1} → statement M
 labels_ok_spec =

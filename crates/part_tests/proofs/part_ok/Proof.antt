@@ -7,21 +7,21 @@ use borrow.Author.Rules.{rules}
 use Rattle.part_tests.proofs.part_ok.Statement.{statement}
 use Rattle.part_tests.proofs.part_ok.Tie as tie
 
-returns : tie.Need-returns
+returns : tie.Need-returns-then-head-eq0
 unfolding part_ok
-returns c = sym (and-fails _ _ (zero-ltb c.if1.true))
+returns c = sym (and-fails _ _ (zero-ltb c.if-head-eq0.true))
 
-returns-2 : tie.Need-returns-2
+returns-2 : tie.Need-returns-then-limit-head
 unfolding part_ok
-returns-2 c = sym (and-passes _ _ (pos-ltb c.before.if1.false) (and-fails _ _ (lt-leb _ _ c.if2.true)))
+returns-2 c = sym (and-passes _ _ (pos-ltb c.if-head-eq0.false) (and-fails _ _ (lt-leb _ _ c.if-limit-head.true)))
 
-returns-3 : tie.Need-returns-3
+returns-3 : tie.Need-returns-then-not-labels_ok
 unfolding part_ok
-returns-3 c = sym (and-passes _ _ (pos-ltb c.before.before.before.if1.false) (and-passes _ _ (le-leb _ _ c.before.before.if2.false) (and-fails _ _ (said-no c.before.labels-ok.ensures c.if3.true))))
+returns-3 c = sym (and-passes _ _ (pos-ltb c.if-head-eq0.false) (and-passes _ _ (le-leb _ _ c.if-limit-head.false) (and-fails _ _ (said-no c.labels_ok.ensures c.if-not-labels_ok.true))))
 
-returns-4 : tie.Need-returns-4
+returns-4 : tie.Need-returns
 unfolding part_ok
-returns-4 c = c.zeros.ensures ∙ sym (and-passes _ _ (pos-ltb c.before.before.before.before.if1.false) (and-passes _ _ (le-leb _ _ c.before.before.before.if2.false) (and-passes _ _ (said-yes c.before.before.labels-ok.ensures c.before.if3.false) refl)))
+returns-4 c = c.zeros.ensures ∙ sym (and-passes _ _ (pos-ltb c.if-head-eq0.false) (and-passes _ _ (le-leb _ _ c.if-limit-head.false) (and-passes _ _ (said-yes c.labels_ok.ensures c.if-not-labels_ok.false) refl)))
 
 pub part_ok_spec : {M : Type 1} → statement M
 part_ok_spec =

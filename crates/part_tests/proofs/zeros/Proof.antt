@@ -10,24 +10,24 @@ use borrow.Author.Rules.{rules}
 use Rattle.part_tests.proofs.zeros.Statement.{statement}
 use Rattle.part_tests.proofs.zeros.Tie as tie
 
-abbrev invariant-loop : tie.invariant-loop
+abbrev invariant-loop : tie.invariant-loop-i
 invariant-loop memory from to i₀ i = zeros memory from to ≡ between (λ k. eqb (word_at memory k) 0) i to
 
-abbrev decreases-loop : tie.decreases-loop
+abbrev decreases-loop : tie.decreases-loop-i
 decreases-loop memory from to i₀ i = to - i
 
-returns : tie.Need-returns invariant-loop decreases-loop
+returns : tie.Need-returns-then-memory-i-ne0 invariant-loop decreases-loop
 returns c =
-    let l = c.before.before.before.loop in
-    sym (l.invariant ∙ between-hit _ l.i _ c.before.before.loop-test.true (ne_eqb _ _ c.if1.true))
+    let l = c.loop-i in
+    sym (l.invariant ∙ between-hit _ l.i _ c.loop-i-test.true (ne_eqb _ _ c.if-memory-i-ne0.true))
 
-loop-again : tie.Need-loop-preserved invariant-loop decreases-loop
+loop-again : tie.Need-loop-i-preserved invariant-loop decreases-loop
 loop-again c =
-    let l = c.before.before.before.loop in
-    l.invariant ∙ between-skip _ l.i _ c.before.before.loop-test.true (eq-eqb _ _ c.if1.false)
+    let l = c.loop-i in
+    l.invariant ∙ between-skip _ l.i _ c.loop-i-test.true (eq-eqb _ _ c.if-memory-i-ne0.false)
 
-returns-2 : tie.Need-returns-2 invariant-loop decreases-loop
-returns-2 c = sym (c.before.loop.invariant ∙ between_done _ c.before.loop.i _ c.loop-test.false)
+returns-2 : tie.Need-returns invariant-loop decreases-loop
+returns-2 c = sym (c.loop-i.invariant ∙ between_done _ c.loop-i.i _ c.loop-i-test.false)
 
 pub zeros_spec : {M : Type 1} → statement M
 zeros_spec =

@@ -12,28 +12,28 @@ use borrow.Author.Rules.{rules}
 use Rattle.parts.proofs.put_part.Statement.{statement}
 use Rattle.parts.proofs.put_part.Tie as tie
 
-abbrev invariant-loop : tie.invariant-loop
+abbrev invariant-loop : tie.invariant-loop-k
 invariant-loop memory₀ at limit block from n k₀ memory k =
     (length memory ≡ length memory₀) × (k ≤ limit) × (memory ≡ slot_set memory₀ (at + 1) k (λ (j : ℕ). part_word (labels_at block from n) (1 + j)))
 
-abbrev decreases-loop : tie.decreases-loop
+abbrev decreases-loop : tie.decreases-loop-k
 decreases-loop memory₀ at limit block from n k₀ memory k = limit - k
 
-loop-holds : tie.Need-loop-init invariant-loop decreases-loop
+loop-holds : tie.Need-loop-k-init invariant-loop decreases-loop
 loop-holds c = (refl, search rules, sym (slot-none _ _ _))
 
 -- the memory keeps its length
-room : (c : tie.At-loop invariant-loop decreases-loop) → length c.loop.memory ≡ length c.before.before.before.args.memory.now
-room c = c.loop.invariant.0 ∙ simp length-set
+room : (c : tie.At-loop-k invariant-loop decreases-loop) → length c.loop-k.memory ≡ length c.before.before.before.args.memory.now
+room c = c.loop-k.invariant.0 ∙ simp length-set
 
-loop-again : tie.Need-loop-preserved invariant-loop decreases-loop
+loop-again : tie.Need-loop-k-preserved invariant-loop decreases-loop
 loop-again c =
-    let l = c.before.before.loop in
-    (length-set l.memory _ _ ∙ l.invariant.0, omega arith, slot_turn _ _ _ l.k _ _ l.invariant.2 c.label-word.ensures)
+    let l = c.before.before.loop-k in
+    (length-set l.memory _ _ ∙ l.invariant.0, omega arith, slot_turn _ _ _ l.k _ _ l.invariant.2 c.label_word.ensures)
 
 returns : tie.Need-returns invariant-loop decreases-loop
 returns c =
-    let l = c.before.loop in
+    let l = c.before.loop-k in
     let a = c.before.before.before.before.args in
     part-put a.block.now a.from a.n a.memory.now l.memory a.at l.k a.limit l.invariant.2 (omega arith)
 

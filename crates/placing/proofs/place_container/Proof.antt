@@ -10,10 +10,10 @@ use Rattle.placing.proofs.place_container.Tie as tie
 fields : (c : tie.Start) → ContainerFields c.args.block.now
 fields c = container-fields _ _ c.requires.2
 
-shared-slice-read-size : tie.Need-shared-slice-read-size
+shared-slice-read-size : tie.Need-bounds-block-1
 shared-slice-read-size c = omega (arith, fields c.before.before.before)
 
-put-part-requires : tie.Need-put-part-requires
+put-part-requires : tie.Need-put_part-requires
 put-part-requires c κs = let n = c.before in omega (arith, fields n.before.before.before.before, n.before.before.before.before.requires.0.whole)
 
 returns : tie.Need-returns
@@ -22,7 +22,7 @@ returns c =
     let n = w.before.before in
     let s = n.before.before.before.before in
     container-image _ s.requires.0 s.args.c _ s.requires.1
-    (container-stored s.args.block.now s.args.memory.now _ _ _ n.size.ensures.0 w.put-part.ensures) (λ i. omega (arith, c.slice-known2.given i))
+    (container-stored s.args.block.now s.args.memory.now _ _ _ n.size-count.ensures.0 w.put_part.ensures) (λ i. omega (arith, c.slice_known-2-1.given i))
 
 pub place_container_spec : {M : Type 1} → statement M
 place_container_spec =

@@ -10,33 +10,33 @@ use Rattle.row_listing.proofs.Putting.{PuttingWord, word-start, word-length, wor
 use Rattle.row_listing.proofs.put_bits.Statement.{statement}
 use Rattle.row_listing.proofs.put_bits.Tie as tie
 
-abbrev invariant-loop : tie.invariant-loop
+abbrev invariant-loop : tie.invariant-loop-rest
 invariant-loop list₀ from base word at₀ rest₀ list at rest = PuttingWord list₀ from base word list at rest
 
-abbrev decreases-loop : tie.decreases-loop
+abbrev decreases-loop : tie.decreases-loop-rest
 decreases-loop list₀ from base word at₀ rest₀ list at rest = rest
 
 -- the loop's test
-room : (t : tie.In-loop invariant-loop decreases-loop) → (0 < t.before.loop.rest) × (t.before.loop.at < length t.before.loop.list)
-room t = both-less 0 t.before.loop.rest t.before.loop.at (length t.before.loop.list) t.loop-test.true
+room : (t : tie.In-loop-rest invariant-loop decreases-loop) → (0 < t.before.loop-rest.rest) × (t.before.loop-rest.at < length t.before.loop-rest.list)
+room t = both-less 0 t.before.loop-rest.rest t.before.loop-rest.at (length t.before.loop-rest.list) t.loop-rest-test.true
 
-loop-holds : tie.Need-loop-init invariant-loop decreases-loop
+loop-holds : tie.Need-loop-rest-init invariant-loop decreases-loop
 loop-holds c = word-start c.before.ranges.word.fits c.before.requires.0
 
-add-list : tie.Need-overflow-add-list invariant-loop decreases-loop
-add-list c = omega (arith, trailing_le 64 c.before.loop.rest, c.before.before.before.requires.1)
+add-list : tie.Need-overflow_add-list invariant-loop decreases-loop
+add-list c = omega (arith, trailing_le 64 c.before.loop-rest.rest, c.before.before.before.requires.1)
 
-loop-less : tie.Need-loop-smaller invariant-loop decreases-loop
-loop-less c = c.without-lowest.ensures.1
+loop-less : tie.Need-loop-rest-smaller invariant-loop decreases-loop
+loop-less c = c.without_lowest-rest.ensures.1
 
-loop-again : tie.Need-loop-preserved invariant-loop decreases-loop
-loop-again c = let h = room c.before in word-put c.before.before.loop.invariant h.0 h.1 c.without-lowest.ensures
+loop-again : tie.Need-loop-rest-preserved invariant-loop decreases-loop
+loop-again c = let h = room c.before in word-put c.before.before.loop-rest.invariant h.0 h.1 c.without_lowest-rest.ensures
 
-same_length : tie.Need-same-length invariant-loop decreases-loop
-same_length c = let h = word-length c.before.loop.invariant in search rules
+same_length : tie.Need-shape_of-list invariant-loop decreases-loop
+same_length c = let h = word-length c.before.loop-rest.invariant in search rules
 
 returns : tie.Need-returns invariant-loop decreases-loop
-returns c = let l = c.before.loop in word-done l.invariant (not-both-less 0 l.rest l.at (length l.list) c.loop-test.false)
+returns c = let l = c.before.loop-rest in word-done l.invariant (not-both-less 0 l.rest l.at (length l.list) c.loop-rest-test.false)
 
 pub put_bits_spec : {M : Type 1} → statement M
 put_bits_spec =

@@ -6,7 +6,7 @@ use borrow.Author.Rules.{rules}
 use Rattle.row_reads.proofs.count.Statement.{statement}
 use Rattle.row_reads.proofs.count.Tie as tie
 
-row : (c : tie.Start) → Row c.args.t1
+row : (c : tie.Start) → Row c.args.row
 row c = search rules
 
 returns : tie.Need-returns

@@ -11,20 +11,20 @@ use borrow.Author.Rules.{rules}
 use Rattle.row_reads.proofs.next_from.Statement.{statement}
 use Rattle.row_reads.proofs.next_from.Tie as tie
 
-abbrev invariant-loop : tie.invariant-loop
+abbrev invariant-loop : tie.invariant-loop-at
 invariant-loop i row at₀ at = lowest_from (bit_at row) i ≡ lowest_from (bit_at row) at
 
-abbrev decreases-loop : tie.decreases-loop
+abbrev decreases-loop : tie.decreases-loop-at
 decreases-loop i row at₀ at = 256 - at
 
-returns : tie.Need-returns invariant-loop decreases-loop
-returns c = let l = c.before.before.loop in sym (l.invariant ∙ at-lowest _ l.at _ (rest-lowest _ l.at (search rules) (search rules) (omega arith)))
+returns : tie.Need-returns-then-w-gt0 invariant-loop decreases-loop
+returns c = let l = c.loop-at in sym (l.invariant ∙ at-lowest _ l.at _ (rest-lowest _ l.at (search rules) (search rules) (omega arith)))
 
-loop-again : tie.Need-loop-preserved invariant-loop decreases-loop
-loop-again c = let l = c.before.before.loop in l.invariant ∙ lowest-skip _ l.at _ (omega arith) (rest-clear _ l.at (omega arith))
+loop-again : tie.Need-loop-at-preserved invariant-loop decreases-loop
+loop-again c = let l = c.loop-at in l.invariant ∙ lowest-skip _ l.at _ (omega arith) (rest-clear _ l.at (omega arith))
 
-returns-2 : tie.Need-returns-2 invariant-loop decreases-loop
-returns-2 c = let l = c.before.loop in sym (l.invariant ∙ nothing-lowest _ l.at (λ k a b. absurd (omega arith)))
+returns-2 : tie.Need-returns invariant-loop decreases-loop
+returns-2 c = let l = c.loop-at in sym (l.invariant ∙ nothing-lowest _ l.at (λ k a b. absurd (omega arith)))
 
 pub next_from_spec : {M : Type 1} → statement M
 next_from_spec =

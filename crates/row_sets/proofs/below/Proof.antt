@@ -8,8 +8,8 @@ returns : tie.Need-returns
 returns c =
     let three = c.before.before in
     let two = three.before.before in
-    low-row _ _ _ _ _ two.before.saturating-sub.ensures three.before.saturating-sub2.ensures c.before.saturating-sub3.ensures
-    two.before.before.low-bits.ensures two.low-bits2.ensures three.low-bits3.ensures c.low-bits4.ensures
+    low-row _ _ _ _ _ two.before.saturating_sub.ensures three.before.saturating_sub-2.ensures c.before.saturating_sub-3.ensures
+    two.before.before.low_bits.ensures two.low_bits-2.ensures three.low_bits-3.ensures c.low_bits-4.ensures
 
 pub below_spec : {M : Type 1} → statement M
 below_spec =

@@ -6,7 +6,7 @@ use Rattle.row_sets.proofs.has.Tie as tie
 
 returns : tie.Need-returns
 unfolding bit_at
-returns c = c.bit-of.ensures
+returns c = c.bit_of.ensures
 
 pub has_spec : {M : Type 1} → statement M
 has_spec = tie.close (tie.spec (λ c. search rules) (λ c. search rules) (λ c κs. search rules) returns)

@@ -11,14 +11,14 @@ use borrow.Author.Rules.{rules}
 use Rattle.row_sets.proofs.low_bits.Statement.{statement}
 use Rattle.row_sets.proofs.low_bits.Tie as tie
 
-sub-result : tie.Need-overflow-sub-result
-sub-result c = omega (arith, one_shl 64 _ c.if1.true, pow_pos c.before.args.n)
+sub-result : tie.Need-overflow_sub-result
+sub-result c = omega (arith, one_shl 64 _ c.if-n-lt64.true, pow_pos c.before.args.n)
 
-returns : tie.Need-returns
-returns c = ap (λ (w : ℕ). bit (w - 1)) (one_shl 64 _ c.if1.true) ∙ bit_mask-law _ ∙ sym (under-under _ 64 (omega arith))
+returns : tie.Need-returns-then-n-lt64
+returns c = ap (λ (w : ℕ). bit (w - 1)) (one_shl 64 _ c.if-n-lt64.true) ∙ bit_mask-law _ ∙ sym (under-under _ 64 (omega arith))
 
-returns-2 : tie.Need-returns-2
-returns-2 c = bit_mask-law 64 ∙ sym (meet_comm (under _) (under 64) ∙ under-under 64 _ c.if1.false)
+returns-2 : tie.Need-returns-else-n-lt64
+returns-2 c = bit_mask-law 64 ∙ sym (meet_comm (under _) (under 64) ∙ under-under 64 _ c.if-n-lt64.false)
 
 pub low_bits_spec : {M : Type 1} → statement M
 low_bits_spec = tie.close (tie.spec (λ c. search rules) sub-result returns returns-2)

@@ -9,7 +9,7 @@ use Rattle.row_tests.proofs.part_of.Tie as tie
 
 returns : tie.Need-returns
 unfolding part
-returns c = c.is-empty.ensures ∙ ap (λ (s : ℕ → Bool). not (has_some s)) c.before.except.ensures
+returns c = c.is_empty.ensures ∙ ap (λ (s : ℕ → Bool). not (has_some s)) c.before.except.ensures
 
 pub part_of_spec : {M : Type 1} → statement M
 part_of_spec = tie.close (tie.spec (λ c κs. search rules) (λ c κs. search rules) returns)

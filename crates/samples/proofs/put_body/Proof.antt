@@ -5,18 +5,18 @@ use Rattle.samples.proofs.SampleLaws.{front-sets}
 use Rattle.samples.proofs.put_body.Statement.{statement}
 use Rattle.samples.proofs.put_body.Tie as tie
 
-same_length : tie.Need-same-length
+same_length : tie.Need-shape_of-body-then-at-lt510
 same_length c = simp (length-set) (omega arith)
 
-returns : tie.Need-returns
+returns : tie.Need-returns-then-at-lt510
 returns c =
-    let s = c.before.before.before.before.before.before.before.before.before.before.args.shape in
-    ap (λ (l : List ℕ). set l s.at s.byte) (front-sets s _ _ _ c.before.before.before.before.before.before.before.put_four.ensures c.before.before.before.put-labels.ensures)
+    let s = c.args.shape in
+    ap (λ (l : List ℕ). set l s.at s.byte) (front-sets s _ _ _ c.put_four.ensures c.put_labels.ensures)
 
-returns-2 : tie.Need-returns-2
+returns-2 : tie.Need-returns-else-at-lt510
 returns-2 c =
-    let s = c.before.before.before.before.before.before.before.before.before.before.args.shape in
-    sym (set_out _ s.at s.byte (omega arith)) ∙ ap (λ (l : List ℕ). set l s.at s.byte) (front-sets s _ _ _ c.before.before.before.before.before.before.before.put_four.ensures c.before.before.before.put-labels.ensures)
+    let s = c.args.shape in
+    sym (set_out _ s.at s.byte (omega arith)) ∙ ap (λ (l : List ℕ). set l s.at s.byte) (front-sets s _ _ _ c.put_four.ensures c.put_labels.ensures)
 
 pub put_body_spec : {M : Type 1} → statement M
 put_body_spec =

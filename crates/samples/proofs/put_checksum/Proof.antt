@@ -4,11 +4,11 @@ use Rattle.samples.proofs.SampleLaws.{checksum-small, sum-sets}
 use Rattle.samples.proofs.put_checksum.Statement.{statement}
 use Rattle.samples.proofs.put_checksum.Tie as tie
 
-add-sum : tie.Need-overflow-add-sum
-add-sum c = omega (arith, checksum-small c.before.before.before.before.args.block.now)
+add-sum : tie.Need-overflow_add-sum
+add-sum c = omega (arith, checksum-small c.args.block.now)
 
 returns : tie.Need-returns
-returns c = sum-sets c.before.before.before.before.args.block.now _ _ _ c.before.checksum.ensures c.wide.ensures.0
+returns c = sum-sets c.args.block.now _ _ _ c.checksum.ensures c.wide.ensures.0
 
 pub put_checksum_spec : {M : Type 1} → statement M
 put_checksum_spec =

@@ -4,13 +4,13 @@ use Rattle.samples.proofs.SampleLaws.{four-sets}
 use Rattle.samples.proofs.put_four.Statement.{statement}
 use Rattle.samples.proofs.put_four.Tie as tie
 
-slice-write-block-2 : tie.Need-slice-write-block-2
+slice-write-block-2 : tie.Need-bounds-block-at-2
 slice-write-block-2 c = simp (length-set) (omega arith)
 
-slice-write-block-3 : tie.Need-slice-write-block-3
+slice-write-block-3 : tie.Need-bounds-block-at-3
 slice-write-block-3 c = simp (length-set) (omega arith)
 
-slice-write-block-4 : tie.Need-slice-write-block-4
+slice-write-block-4 : tie.Need-bounds-block-at-4
 slice-write-block-4 c = simp (length-set) (omega arith)
 
 returns : tie.Need-returns

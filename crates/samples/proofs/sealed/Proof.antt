@@ -4,14 +4,14 @@ use Rattle.samples.proofs.SampleLaws.{body-made, body-room, block_made}
 use Rattle.samples.proofs.sealed.Statement.{statement}
 use Rattle.samples.proofs.sealed.Tie as tie
 
-slice-aggregate-put-checksum : tie.Need-slice-aggregate-put-checksum
-slice-aggregate-put-checksum c = sym (body-room _ _ (body-made _ _ c.before.before.put-body.ensures))
+slice-aggregate-put-checksum : tie.Need-slice_bounds-put_checksum-end
+slice-aggregate-put-checksum c = sym (body-room _ _ (body-made _ _ c.put_body.ensures))
 
-put-checksum-requires : tie.Need-put-checksum-requires
-put-checksum-requires c κs = body-room _ _ (body-made _ _ c.before.before.put-body.ensures)
+put-checksum-requires : tie.Need-put_checksum-requires
+put-checksum-requires c κs = body-room _ _ (body-made _ _ c.put_body.ensures)
 
 returns : tie.Need-returns
-returns c = (block_made _ _ _ (body-made _ _ c.before.before.before.before.put-body.ensures) c.before.put-checksum.ensures, search rules)
+returns c = (block_made _ _ _ (body-made _ _ c.put_body.ensures) c.put_checksum.ensures, search rules)
 
 pub sealed_spec : {M : Type 1} → statement M
 sealed_spec =

@@ -7,19 +7,19 @@ use Rattle.sealing.proofs.SealingLaws.{byte_small, byte_fits, sum_fits, number_p
 use Rattle.sealing.proofs.put_number.Statement.{statement}
 use Rattle.sealing.proofs.put_number.Tie as tie
 
-slice-write-block-2 : tie.Need-slice-write-block-2
+slice-write-block-2 : tie.Need-bounds-block-at-2
 slice-write-block-2 c = simp length-set (omega arith)
 
-mul-result : tie.Need-overflow-mul-result
+mul-result : tie.Need-overflow_mul-result
 mul-result c = byte_fits _ _ (omega arith) (omega arith)
 
-add-result : tie.Need-overflow-add-result
+add-result : tie.Need-overflow_add-result
 add-result c = sum_fits _ _ _ (omega arith) (omega arith) (omega arith)
 
-mul-result-2 : tie.Need-overflow-mul-result-2
+mul-result-2 : tie.Need-overflow_mul-result-2
 mul-result-2 c = byte_fits _ _ (omega arith) (omega arith)
 
-add-result-3 : tie.Need-overflow-add-result-3
+add-result-3 : tie.Need-overflow_add-result-3
 add-result-3 c = sum_fits _ _ _ (omega (arith, byte_small (c.args.number / 256) (c.args.at + 1) (omega arith) (omega arith))) (omega arith) (omega arith)
 
 returns : tie.Need-returns

@@ -6,15 +6,13 @@ use borrow.Author.Rules.{rules}
 use Rattle.slot_search.proofs.free_container_from.Statement.{statement}
 use Rattle.slot_search.proofs.free_container_from.Tie as tie
 
-returns : tie.Need-returns
+returns : tie.Need-returns-in-At
 returns c =
-    let s = c.before.before.before in
-    sym (ap free_container (container-found _ _ s.before.before.requires.1 _ (sym s.lowest-free.ensures ∙ c.before.found.given.1)))
+    sym (ap free_container (container-found _ _ c.requires.1 _ (sym c.lowest_free-found.ensures ∙ c.in-At.is)))
 
-returns-2 : tie.Need-returns-2
+returns-2 : tie.Need-returns-in-Nothing
 returns-2 c =
-    let s = c.before.before in
-    sym (ap free_container (containers-full _ _ s.before.before.requires.1 (sym s.lowest-free.ensures ∙ c.enum_told.given.1)))
+    sym (ap free_container (containers-full _ _ c.requires.1 (sym c.lowest_free-found.ensures ∙ c.in-Nothing.is)))
 
 pub free_container_from_spec : {M : Type 1} → statement M
 free_container_from_spec =

@@ -6,8 +6,8 @@ use Rattle.stored.proofs.containers_standing.Tie as tie
 
 returns : tie.Need-returns
 returns c =
-    containers-row c.before.before.before.before.before.args.memory.now _ _ _ _ (search rules) (search rules) (search rules) (search rules)
-    c.before.before.before.slots_with.ensures c.before.before.slots-with2.ensures c.before.slots-with3.ensures c.slots-with4.ensures
+    containers-row c.args.memory.now _ _ _ _ (search rules) (search rules) (search rules) (search rules)
+    c.slots_with.ensures c.slots_with-2.ensures c.slots_with-3.ensures c.slots_with-4.ensures
 
 pub containers_standing_spec : {M : Type 1} → statement M
 containers_standing_spec =

@@ -5,7 +5,7 @@ use Rattle.stored.proofs.policies_standing.Statement.{statement}
 use Rattle.stored.proofs.policies_standing.Tie as tie
 
 returns : tie.Need-returns
-returns c = policies-row c.before.before.before.args.memory.now _ _ (search rules) (search rules) c.before.slots_with.ensures c.slots-with2.ensures
+returns c = policies-row c.args.memory.now _ _ (search rules) (search rules) c.slots_with.ensures c.slots_with-2.ensures
 
 pub policies_standing_spec : {M : Type 1} → statement M
 policies_standing_spec = tie.close (tie.spec (λ c κs. search rules) (λ c κs. search rules) returns)

@@ -7,11 +7,11 @@ use Rattle.formed.proofs.StoredLaws.{selected-row}
 use Rattle.stored.proofs.stored_selected.Statement.{statement}
 use Rattle.stored.proofs.stored_selected.Tie as tie
 
-row-at-requires : tie.Need-row-at-requires
-row-at-requires c κs = let p = c.before.requires in (p.0, omega (arith, p.1))
+row-at-requires : tie.Need-row_at-requires
+row-at-requires c κs = let p = c.requires in (p.0, omega (arith, p.1))
 
 returns : tie.Need-returns
-returns c = ap bit_at c.row_at.ensures ∙ selected-row _ _ c.before.before.requires.1
+returns c = ap bit_at c.row_at.ensures ∙ selected-row _ _ c.requires.1
 
 pub stored_selected_spec : {M : Type 1} → statement M
 stored_selected_spec = tie.close (tie.spec (λ c. search rules) (λ c. search rules) row-at-requires returns)

@@ -4,11 +4,11 @@ use Rattle.tallies.proofs.Ways.{one-taken, one-refused}
 use Rattle.tallies.proofs.counted.Statement.{statement}
 use Rattle.tallies.proofs.counted.Tie as tie
 
-returns : tie.Need-returns
-returns c = one-taken _ _ _ c.before.if1.true c.one_more.ensures
+returns : tie.Need-returns-then-taken
+returns c = one-taken _ _ _ c.before.if-taken.true c.one_more.ensures
 
-returns-2 : tie.Need-returns-2
-returns-2 c = one-refused _ _ _ c.before.if1.false c.one-more2.ensures
+returns-2 : tie.Need-returns-else-taken
+returns-2 c = one-refused _ _ _ c.before.if-taken.false c.one_more-else-taken.ensures
 
 pub counted_spec : {M : Type 1} → statement M
 counted_spec = tie.close (tie.spec (λ c κs. search rules) (λ c κs. search rules) returns returns-2)

@@ -6,13 +6,13 @@ use Rattle.text.proofs.LineLaws.{number-taken, number-refused}
 use Rattle.text.proofs.put_answer.Statement.{statement}
 use Rattle.text.proofs.put_answer.Tie as tie
 
-returns : tie.Need-returns
-returns c = (puts-as (puts_none (omega arith)) (number-taken _ _ c.if1.true), omega arith)
+returns : tie.Need-returns-then-number-eq0
+returns c = (puts-as (puts_none (omega arith)) (number-taken _ _ c.if-number-eq0.true), omega arith)
 
-returns-2 : tie.Need-returns-2
+returns-2 : tie.Need-returns
 returns-2 c =
-    let p = c.before.before.put-refusal.ensures in
-    (puts-as p.0 (number-refused _ _ c.before.before.before.before.if1.false), p.1)
+    let p = c.put_refusal.ensures in
+    (puts-as p.0 (number-refused _ _ c.if-number-eq0.false), p.1)
 
 pub put_answer_spec : {M : Type 1} → statement M
 put_answer_spec =

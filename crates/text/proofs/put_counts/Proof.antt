@@ -9,10 +9,7 @@ use Rattle.text.proofs.put_counts.Tie as tie
 returns : tie.Need-returns
 unfolding counts_line
 returns c =
-    let z = c.before.before in
-    let y = z.before.before.before.before.before in
-    let x = y.before.before.before.before.before in
-    (puts_then (puts_then x.put-named.ensures.0 y.put-named2.ensures.0) z.put-named3.ensures.0, omega arith)
+    (puts_then (puts_then c.put_named-second.ensures.0 c.put_named-third.ensures.0) c.put_named.ensures.0, omega arith)
 
 pub put_counts_spec : {M : Type 1} → statement M
 put_counts_spec =

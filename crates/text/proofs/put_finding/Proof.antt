@@ -15,32 +15,28 @@ short : (c : tie.Start) → (length (decimal (c.args.code / 4294967296)) ≤ 10)
 short c = let n = c.args.code in (decimal-short 9 (n / 4294967296) (omega arith), decimal-short 4 (n / 65536 % 65536) (omega arith), decimal-short 4 (n % 65536) (omega arith))
 
 -- where the first number and the byte after it end, and the second
-first-end : (c : tie.After-put-number) → c.put-number.result ≤ c.before.before.before.args.at + 11
-first-end c = omega (arith, short c.before.before.before, simp length-append at c.put-number.ensures.0.stops)
+first-end : (c : tie.After-put_number-second) → c.put_number-second.result ≤ c.args.at + 11
+first-end c = omega (arith, short c.before.before.before, simp length-append at c.put_number-second.ensures.0.stops)
 
-second-end : (c : tie.After-put-number2) → c.put-number2.result ≤ c.before.before.before.before.put-number.result + 6
-second-end c = omega (arith, short c.before.before.before.before.before.before.before, simp length-append at c.put-number2.ensures.0.stops)
+second-end : (c : tie.After-put_number-third) → c.put_number-third.result ≤ c.put_number-second.result + 6
+second-end c = omega (arith, short c.before.before.before.before.before.before.before, simp length-append at c.put_number-third.ensures.0.stops)
 
-put-number-requires : tie.Need-put-number-requires
+put-number-requires : tie.Need-put_number-second-requires
 put-number-requires c κs = omega (arith, short c.before.before)
 
-put-number-requires-2 : tie.Need-put-number-requires-2
-put-number-requires-2 c κs = let x = c.before.before.before in omega (arith, short x.before.before.before, first-end x)
+put-number-requires-2 : tie.Need-put_number-third-requires
+put-number-requires-2 c κs = omega (arith, short c.before.before.before.before.before.before, first-end c.before.before.before)
 
-put-number-requires-3 : tie.Need-put-number-requires-3
+put-number-requires-3 : tie.Need-put_number-requires
 put-number-requires-3 c κs =
-    let y = c.before.before.before in
-    let x = y.before.before.before.before in
-    omega (arith, short x.before.before.before, first-end x, second-end y)
+    omega (arith, short c.before.before.before.before.before.before.before.before.before.before, first-end c.before.before.before.before.before.before.before, second-end c.before.before.before)
 
 returns : tie.Need-returns
 unfolding code_line three_numbers
 returns c =
-    let z = c.before.before in
-    let y = z.before.before.before.before in
-    let x = y.before.before.before.before in (
-      puts_then (puts_then x.put-number.ensures.0 y.put-number2.ensures.0) z.put-number3.ensures.0,
-      omega (arith, short x.before.before.before, first-end x, second-end y, simp length-append at z.put-number3.ensures.0.stops),
+    (
+      puts_then (puts_then c.put_number-second.ensures.0 c.put_number-third.ensures.0) c.put_number.ensures.0,
+      omega (arith, short c.before.before.before.before.before.before.before.before.before.before.before.before.before, first-end c.before.before.before.before.before.before.before.before.before.before, second-end c.before.before.before.before.before.before, simp length-append at c.put_number.ensures.0.stops),
     )
 
 pub put_finding_spec : {M : Type 1} → statement M

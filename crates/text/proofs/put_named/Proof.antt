@@ -10,15 +10,13 @@ use Rattle.text.proofs.put_named.Tie as tie
 returns : tie.Need-returns
 unfolding named
 returns c =
-    let z = c.before.before in
-    let y = z.before.before.before.before in
-    (puts_then y.put_word.ensures.0 z.put-number.ensures.0, omega arith)
+    (puts_then c.put_word-next.ensures.0 c.put_number.ensures.0, omega arith)
 
 pub put_named_spec : {M : Type 1} → statement M
 put_named_spec =
     tie.close
     (tie.spec
     (λ c κs. search rules)
-    (λ c κs. omega (arith, decimal-short 19 c.before.before.before.before.before.before.before.args.n (omega arith)))
+    (λ c κs. omega (arith, decimal-short 19 c.args.n (omega arith)))
     (λ c. search rules)
     returns)

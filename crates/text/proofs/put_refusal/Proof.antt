@@ -10,9 +10,7 @@ use Rattle.text.proofs.put_refusal.Tie as tie
 returns : tie.Need-returns
 unfolding refused_line
 returns c =
-    let z = c.before.before in
-    let y = z.before.before.before.before in
-    (puts_then y.put-named.ensures.0 z.put-number.ensures.0, omega arith)
+    (puts_then c.put_named-next.ensures.0 c.put_number.ensures.0, omega arith)
 
 pub put_refusal_spec : {M : Type 1} → statement M
 put_refusal_spec =
@@ -20,6 +18,6 @@ put_refusal_spec =
     (tie.spec
     (λ c. search rules)
     (λ c κs. search rules)
-    (λ c κs. omega (arith, decimal-short 19 c.before.before.before.before.before.before.before.args.refusal (omega arith)))
+    (λ c κs. omega (arith, decimal-short 19 c.args.refusal (omega arith)))
     (λ c. search rules)
     returns)

@@ -10,29 +10,29 @@ use borrow.Author.Rules.{rules}
 use Rattle.trials.proofs.matches.Statement.{statement}
 use Rattle.trials.proofs.matches.Tie as tie
 
-abbrev invariant-loop : tie.invariant-loop
+abbrev invariant-loop : tie.invariant-loop-i
 invariant-loop memory part at end i₀ i = (part < i) × (matches_part (part_in memory part) (part_in memory at) ≡ matches_part (labels_from memory i end) (part_in memory at))
 
-abbrev decreases-loop : tie.decreases-loop
+abbrev decreases-loop : tie.decreases-loop-i
 decreases-loop memory part at end i₀ i = end - i
 
-loop-holds : tie.Need-loop-init invariant-loop decreases-loop
+loop-holds : tie.Need-loop-i-init invariant-loop decreases-loop
 loop-holds c = (omega arith, matches-part _ _ _)
 
-slot-carries-requires : tie.Need-slot-carries-requires invariant-loop decreases-loop
+slot-carries-requires : tie.Need-slot_carries-requires invariant-loop decreases-loop
 slot-carries-requires c κs =
-    let l = c.before.before.loop in
-    let p = c.before.before.before.before.before.requires in
-    (p.1, p.0.label l.i l.invariant.0 c.before.loop-test.true)
+    let l = c.loop-i in
+    let p = c.requires in
+    (p.1, p.0.label l.i l.invariant.0 c.loop-i-test.true)
 
-returns : tie.Need-returns invariant-loop decreases-loop
-returns c = let l = c.before.before.before.before.loop in sym (l.invariant.1 ∙ matches-fail _ _ l.i _ (omega arith) (sym c.before.slot-carries.ensures ∙ not-true _ c.if1.true))
+returns : tie.Need-returns-then-not-slot_carries invariant-loop decreases-loop
+returns c = let l = c.loop-i in sym (l.invariant.1 ∙ matches-fail _ _ l.i _ (omega arith) (sym c.slot_carries.ensures ∙ not-true _ c.if-not-slot_carries.true))
 
-loop-again : tie.Need-loop-preserved invariant-loop decreases-loop
-loop-again c = let l = c.before.before.before.before.loop in (omega arith, l.invariant.1 ∙ matches-skip _ _ l.i _ (omega arith) (sym c.before.slot-carries.ensures ∙ not-false _ c.if1.false))
+loop-again : tie.Need-loop-i-preserved invariant-loop decreases-loop
+loop-again c = let l = c.loop-i in (omega arith, l.invariant.1 ∙ matches-skip _ _ l.i _ (omega arith) (sym c.slot_carries.ensures ∙ not-false _ c.if-not-slot_carries.false))
 
-returns-2 : tie.Need-returns-2 invariant-loop decreases-loop
-returns-2 c = let l = c.before.loop in sym (l.invariant.1 ∙ matches-done _ _ l.i _ (omega arith))
+returns-2 : tie.Need-returns invariant-loop decreases-loop
+returns-2 c = let l = c.loop-i in sym (l.invariant.1 ∙ matches-done _ _ l.i _ (omega arith))
 
 pub matches_spec : {M : Type 1} → statement M
 matches_spec =

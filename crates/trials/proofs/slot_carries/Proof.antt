@@ -9,7 +9,7 @@ use Rattle.trials.proofs.slot_carries.Tie as tie
 returns : tie.Need-returns
 unfolding some
 returns c =
-    let p = c.before.before.before.before.before.before.before.before.requires in
+    let p = c.requires in
     sym (carries_words _ _ _ 8 p.1 p.0.head p.0.past)
 
 pub slot_carries_spec : {M : Type 1} → statement M

@@ -10,51 +10,46 @@ use borrow.Author.Rules.{rules}
 use Rattle.trials.proofs.trial_word.Statement.{statement}
 use Rattle.trials.proofs.trial_word.Tie as tie
 
-abbrev invariant-loop : tie.invariant-loop
+abbrev invariant-loop : tie.invariant-loop-rest
 invariant-loop memory part word at chosen₀ rest₀ chosen rest = Tried word (matching_from memory part at) chosen rest
 
-abbrev decreases-loop : tie.decreases-loop
+abbrev decreases-loop : tie.decreases-loop-rest
 decreases-loop memory part word at chosen₀ rest₀ chosen rest = rest
 
 -- the lowest number of the rest
-lowest : (t : tie.In-loop invariant-loop decreases-loop) → Lowest (bit t.before.loop.rest) 0 64 (count_trailing_zeros 64 t.before.loop.rest)
-lowest t = trailing 64 t.before.loop.rest t.before.loop.invariant.small (omega (arith, t.loop-test.true))
+lowest : (t : tie.In-loop-rest invariant-loop decreases-loop) → Lowest (bit t.loop-rest.rest) 0 64 (count_trailing_zeros 64 t.loop-rest.rest)
+lowest t = trailing 64 t.loop-rest.rest t.loop-rest.invariant.small (omega (arith, t.loop-rest-test.true))
 
-loop-holds : tie.Need-loop-init invariant-loop decreases-loop
-loop-holds c = tried-none _ _ c.before.ranges.word.fits
+loop-holds : tie.Need-loop-rest-init invariant-loop decreases-loop
+loop-holds c = tried-none _ _ c.ranges.word.fits
 
-mul-matches : tie.Need-overflow-mul-matches invariant-loop decreases-loop
-mul-matches c = let t = c.before in let j = (lowest t).below in omega arith
+mul-matches : tie.Need-overflow_mul-k invariant-loop decreases-loop
+mul-matches c = let j = (lowest c.before).below in omega arith
 
-add-matches : tie.Need-overflow-add-matches invariant-loop decreases-loop
-add-matches c = let t = c.before in let h = (t.before.before.before.requires.1.slot _ (lowest t).below).within in omega arith
+add-matches : tie.Need-overflow_add-at invariant-loop decreases-loop
+add-matches c = let h = (c.requires.1.slot _ (lowest c.before).below).within in omega arith
 
 matches-requires : tie.Need-matches-requires invariant-loop decreases-loop
-matches-requires c κs = let t = c.before in let p = t.before.before.before.requires in (p.0, p.1.slot _ (lowest t).below)
+matches-requires c κs = let p = c.requires in (p.0, p.1.slot _ (lowest c.before).below)
 
-loop-less : tie.Need-loop-smaller invariant-loop decreases-loop
-loop-less c = c.before.before.before.without-lowest.ensures.1
+loop-less : tie.Need-loop-rest-smaller-then-matches invariant-loop decreases-loop
+loop-less c = c.without_lowest-rest.ensures.1
 
-loop-again : tie.Need-loop-preserved invariant-loop decreases-loop
+loop-again : tie.Need-loop-rest-preserved-then-matches invariant-loop decreases-loop
 unfolding matching_from
 loop-again c =
-    let d = c.before in
-    let r = d.before.before in
-    let t = r.before in
-    tried-take t.before.loop.invariant (lowest t) r.without-lowest.ensures c.word-with.ensures d.before.matches.ensures d.if1.true
+    tried-take c.loop-rest.invariant (lowest c.before.before.before.before) c.without_lowest-rest.ensures c.word_with-chosen.ensures c.matches.ensures c.if-matches.true
 
-loop-less-2 : tie.Need-loop-smaller-2 invariant-loop decreases-loop
-loop-less-2 c = c.before.before.without-lowest.ensures.1
+loop-less-2 : tie.Need-loop-rest-smaller invariant-loop decreases-loop
+loop-less-2 c = c.without_lowest-rest.ensures.1
 
-loop-again-2 : tie.Need-loop-preserved-2 invariant-loop decreases-loop
+loop-again-2 : tie.Need-loop-rest-preserved invariant-loop decreases-loop
 unfolding matching_from
 loop-again-2 c =
-    let r = c.before.before in
-    let t = r.before in
-    tried-skip t.before.loop.invariant (lowest t) r.without-lowest.ensures c.before.matches.ensures c.if1.false
+    tried-skip c.loop-rest.invariant (lowest c.before.before.before) c.without_lowest-rest.ensures c.matches.ensures c.if-matches.false
 
 returns : tie.Need-returns invariant-loop decreases-loop
-returns c = tried-all _ _ c.before.before.before.ranges.word.fits c.before.loop.invariant (omega arith)
+returns c = tried-all _ _ c.ranges.word.fits c.loop-rest.invariant (omega arith)
 
 pub trial_word_spec : {M : Type 1} → statement M
 trial_word_spec =

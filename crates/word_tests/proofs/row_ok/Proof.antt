@@ -8,11 +8,11 @@ use borrow.Author.Rules.{rules}
 use Rattle.word_tests.proofs.row_ok.Statement.{statement}
 use Rattle.word_tests.proofs.row_ok.Tie as tie
 
-returns : tie.Need-returns
-returns c = c.is-empty.ensures ∙ ap (λ row. not (has_some (bit_at row))) c.before.before.row_at.ensures ∙ sym (row-free _ _ _ _ c.before.if1.true)
+returns : tie.Need-returns-then-owner-eq0
+returns c = c.is_empty.ensures ∙ ap (λ row. not (has_some (bit_at row))) c.row_at-row.ensures ∙ sym (row-free _ _ _ _ c.if-owner-eq0.true)
 
-returns-2 : tie.Need-returns-2
-returns-2 c = c.part_of.ensures ∙ ap (λ row. part (bit_at row) (bit_at c.before.before.before.before.args.standing)) c.before.before.row_at.ensures ∙ sym (row-owned _ _ _ _ c.before.if1.false)
+returns-2 : tie.Need-returns
+returns-2 c = c.part_of.ensures ∙ ap (λ row. part (bit_at row) (bit_at c.args.standing)) c.row_at-row.ensures ∙ sym (row-owned _ _ _ _ c.if-owner-eq0.false)
 
 pub row_ok_spec : {M : Type 1} → statement M
 row_ok_spec =
