@@ -7,7 +7,7 @@ ghost use Rattle.layouts.specs.Steps.{run_of, range_of, runs_of, unused_of, RunW
 use block::{Fault, Refusal, Tested, numbers};
 
 // Whether a block meets refusal 3 or 4, and, if neither, where its used bytes end.
-#[derive(Drop)]
+#[derive(Clone, Copy)]
 pub struct Framed {
     pub tested: Tested,
     pub end: usize,
@@ -60,21 +60,21 @@ pub fn frame_test(block: &[u8]) -> Tested
 // ---- how an admission block is laid out
 
 // A label list: where its first label begins, and how many there are.
-#[derive(Drop)]
+#[derive(Clone, Copy)]
 pub struct Run {
     pub start: usize,
     pub count: usize,
 }
 
 // Unused bytes: from one position up to before another.
-#[derive(Drop)]
+#[derive(Clone, Copy)]
 pub struct Span {
     pub from: usize,
     pub to: usize,
 }
 
 // The labels and the unused bytes of an admission block. A run of no label and a span of no byte find no fault.
-#[derive(Drop)]
+#[derive(Clone, Copy)]
 pub struct Body {
     pub first: Run,
     pub second: Run,

@@ -5,7 +5,7 @@ use Rattle.counts.proofs.count_policies.Statement.{statement}
 use Rattle.counts.proofs.count_policies.Tie as tie
 
 returns : tie.Need-returns
-returns c = policies-counted c.before.before.before.args.memory.now _ c.before.policies-standing.ensures c.count.ensures
+returns c = policies-counted c.args.memory.now _ c.policies_standing.ensures c.count.ensures
 
 pub count_policies_spec : {M : Type 1} → statement M
 count_policies_spec = tie.close (tie.spec (λ c κs. search rules) (λ c κs. search rules) (λ c. search rules) returns)

@@ -7,17 +7,17 @@ use Rattle.counts.proofs.CountLaws.{Counting, counting-none, counting-next, pair
 use Rattle.counts.proofs.pairs.Statement.{statement}
 use Rattle.counts.proofs.pairs.Tie as tie
 
-abbrev invariant-loop : tie.invariant-loop
+abbrev invariant-loop : tie.invariant-loop-a
 invariant-loop memory n₀ a₀ n a = Counting (bits_in memory).matrix 256 256 n a
 
-abbrev decreases-loop : tie.decreases-loop
+abbrev decreases-loop : tie.decreases-loop-a
 decreases-loop memory n₀ a₀ n a = 256 - a
 
-loop-again : tie.Need-loop-preserved invariant-loop decreases-loop
-loop-again c = counting-next c.before.before.before.loop.invariant (omega arith) (row-counted _ _ c.before.row_at.ensures c.count.ensures (omega arith))
+loop-again : tie.Need-loop-a-preserved invariant-loop decreases-loop
+loop-again c = counting-next c.loop-a.invariant (omega arith) (row-counted _ _ c.row_at.ensures c.count.ensures (omega arith))
 
 returns : tie.Need-returns invariant-loop decreases-loop
-returns c = pairs-counted _ c.before.loop.invariant c.loop-test.false
+returns c = pairs-counted _ c.loop-a.invariant c.loop-a-test.false
 
 pub pairs_spec : {M : Type 1} → statement M
 pairs_spec =

@@ -42,7 +42,7 @@ put-number-requires-2 c κs =
 loop-again : tie.Need-loop-i-preserved invariant-loop decreases-loop
 loop-again c =
     let t = turn c.before.before.before.before.before.before in
-    put_next t.before.loop.invariant t.loop-test.true c.put_number-keyed.ensures c.put_number-next.ensures
+    put_next t.loop-i.invariant t.loop-i-test.true c.put_number-keyed.ensures c.put_number-next.ensures
 
 same_length : tie.Need-shape_of-block invariant-loop decreases-loop
 same_length c = (put-summed c.loop-i.invariant).long ∙ sym c.requires.1.long

@@ -7,17 +7,16 @@ use Rattle.layouts.proofs.Layouts.{container-count, container-layout}
 use Rattle.entry_layouts.proofs.container_test.Statement.{statement}
 use Rattle.entry_layouts.proofs.container_test.Tie as tie
 
-layout-test-requires : tie.Need-layout-test-requires
+layout-test-requires : tie.Need-layout_test-requires
 unfolding container_layout
 layout-test-requires c κs =
     λ e.
-    let h = container-count c.before.before.before.before.before.args.block.now (sym c.before.before.unless.ensures ∙ e) in
+    let h = container-count c.args.block.now (sym c.unless-limits.ensures ∙ e) in
     record { first = omega arith; second = omega arith; head = omega arith; rest = omega arith }
 
 returns : tie.Need-returns
 returns c =
-    let d = c.before.before.before.before.before.before in
-    c.layout-test.ensures ∙ container-layout _ _ _ _ d.requires.1 c.before.before.before.unless.ensures c.before.size.ensures.0
+    c.layout_test.ensures ∙ container-layout _ _ _ _ c.requires.1 c.unless-limits.ensures c.size-count.ensures.0
 
 pub container_test_spec : {M : Type 1} → statement M
 container_test_spec =

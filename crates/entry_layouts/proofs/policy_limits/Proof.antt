@@ -9,9 +9,9 @@ use Rattle.entry_layouts.proofs.policy_limits.Tie as tie
 returns : tie.Need-returns
 unfolding policy_layout
 returns c =
-    or_else-same _ _ _ _ _ c.or-else2.ensures
-    (unless-same _ _ _ _ c.before.before.before.before.before.before.unless.ensures (c.before.before.before.before.before.before.before.within.ensures ∙ ap (within 1 2) c.before.before.before.before.before.before.before.before.wide.ensures.0))
-    (or_else-same _ _ _ _ _ c.before.or_else.ensures c.before.before.before.before.unless2.ensures c.before.before.unless3.ensures)
+    or_else-same _ _ _ _ _ c.or_else-2.ensures
+    (unless-same _ _ _ _ c.unless-direction.ensures (c.within.ensures ∙ ap (within 1 2) c.wide.ensures.0))
+    (or_else-same _ _ _ _ _ c.or_else.ensures c.unless-select.ensures c.unless-allow.ensures)
 
 pub policy_limits_spec : {M : Type 1} → statement M
 policy_limits_spec =

@@ -10,33 +10,30 @@ use Rattle.label_table.proofs.RowLaws.{Narrowing, narrow-none, narrow-found, nar
 use Rattle.label_rows.proofs.matching.Statement.{statement}
 use Rattle.label_rows.proofs.matching.Tie as tie
 
-abbrev invariant-loop : tie.invariant-loop
+abbrev invariant-loop : tie.invariant-loop-i
 invariant-loop memory labels rows part left₀ all₀ end i₀ left all i = Narrowing memory part end (bit_at left₀) (bit_at left) all i
 
-abbrev decreases-loop : tie.decreases-loop
+abbrev decreases-loop : tie.decreases-loop-i
 decreases-loop memory labels rows part left₀ all₀ end i₀ left all i = end - i
 
-loop-holds : tie.Need-loop-init invariant-loop decreases-loop
+loop-holds : tie.Need-loop-i-init invariant-loop decreases-loop
 loop-holds c = narrow-none _ _ _ (row-bounded _ (search rules))
 
-loop-again : tie.Need-loop-preserved invariant-loop decreases-loop
+loop-again : tie.Need-loop-i-preserved-then-labels-h invariant-loop decreases-loop
 loop-again c =
-    let t = c.before.before in
-    let p = t.before.before in
-    let l = p.before.before in
-    narrow-found _ _ l.before.loop.invariant l.loop-test.true (label-row l.before.before.before.before.requires.2 p.place.ensures.0 t.if1.true) c.both.ensures
+    narrow-found _ _ c.loop-i.invariant c.loop-i-test.true (label-row c.requires.2 c.place-h.ensures.0 c.if-labels-h.true) c.both-next.ensures
 
-loop-again-2 : tie.Need-loop-preserved-2 invariant-loop decreases-loop
-loop-again-2 c = let l = c.before.before.before.before in narrow-missed _ _ l.before.loop.invariant l.loop-test.true
+loop-again-2 : tie.Need-loop-i-preserved invariant-loop decreases-loop
+loop-again-2 c = narrow-missed _ _ c.loop-i.invariant c.loop-i-test.true
 
-returns : tie.Need-returns invariant-loop decreases-loop
-returns c = narrow-all _ _ c.before.before.loop.invariant c.if2.true c.before.loop-test.false
+returns : tie.Need-returns-then-all invariant-loop decreases-loop
+returns c = narrow-all _ _ c.loop-i.invariant c.if-all.true c.loop-i-test.false
 
 trial-requires : tie.Need-trial-requires invariant-loop decreases-loop
-trial-requires c κs = let p = c.before.before.before.before.before.requires in (formed-whole _ p.0, p.1, formed-slots _ p.0)
+trial-requires c κs = let p = c.requires in (formed-whole _ p.0, p.1, formed-slots _ p.0)
 
-returns-2 : tie.Need-returns-2 invariant-loop decreases-loop
-returns-2 c = c.trial.ensures ∙ c.before.before.before.loop.invariant.narrowed
+returns-2 : tie.Need-returns invariant-loop decreases-loop
+returns-2 c = c.trial.ensures ∙ c.loop-i.invariant.narrowed
 
 pub matching_spec : {M : Type 1} → statement M
 matching_spec =

@@ -7,27 +7,25 @@ use borrow.Author.Tests.{eq-eqb, ne_eqb}
 use Rattle.layouts.proofs.frame.Statement.{statement}
 use Rattle.layouts.proofs.frame.Tie as tie
 
-returns : tie.Need-returns
+returns : tie.Need-returns-then-block-ne512
 returns c =
     record {
-      tested = simp (ne_eqb _ _ c.if1.true);
+      tested = simp (ne_eqb _ _ c.if-block-ne512.true);
       used = λ e. let z : ◌≡◌ {A = ℕ} 0 1 = cc in absurd (omega arith);
     }
 
-returns-2 : tie.Need-returns-2
+returns-2 : tie.Need-returns-then-number_at-checksum_to
 returns-2 c =
-    let d = c.before in
     record {
-      tested = simp (eq-eqb _ _ d.before.before.before.if1.false, ← d.before.number_at.ensures.0, ← d.checksum-to.ensures, ne_eqb _ _ c.if2.true);
-      used = λ e. d.before.before.used-end.ensures;
+      tested = simp (eq-eqb _ _ c.if-block-ne512.false, ← c.number_at.ensures.0, ← c.checksum_to.ensures, ne_eqb _ _ c.if-number_at-checksum_to.true);
+      used = λ e. c.used_end-end.ensures;
     }
 
-returns-3 : tie.Need-returns-3
+returns-3 : tie.Need-returns
 returns-3 c =
-    let d = c.before in
     record {
-      tested = simp (eq-eqb _ _ d.before.before.before.if1.false, ← d.before.number_at.ensures.0, ← d.checksum-to.ensures, eq-eqb _ _ c.if2.false);
-      used = λ e. d.before.before.used-end.ensures;
+      tested = simp (eq-eqb _ _ c.if-block-ne512.false, ← c.number_at.ensures.0, ← c.checksum_to.ensures, eq-eqb _ _ c.if-number_at-checksum_to.false);
+      used = λ e. c.used_end-end.ensures;
     }
 
 pub frame_spec : {M : Type 1} → statement M

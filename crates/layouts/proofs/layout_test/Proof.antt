@@ -6,43 +6,42 @@ use Rattle.layouts.proofs.Layouts.{body-answered}
 use Rattle.layouts.proofs.layout_test.Statement.{statement}
 use Rattle.layouts.proofs.layout_test.Tie as tie
 
-inside : (c : tie.After-enum-told) → BodyWithin (length c.before.before.before.args.block.now) c.before.before.before.args.body
-inside c = c.before.before.before.requires c.enum_told.given.1
+inside : (c : tie.In_default) → BodyWithin (length c.args.block.now) c.args.body
+inside c = c.requires c.in_default.is
 
-returns : tie.Need-returns
-returns c = simp c.before.limits.given.1
+returns : tie.Need-returns-in-At
+returns c = simp c.in-At.is
 
-range-faults-requires : tie.Need-range-faults-requires
+range-faults-requires : tie.Need-range_faults-range-requires
 range-faults-requires c κs = let w = inside c.before.before.before.before in (w.first, w.second)
 
-order-faults-requires : tie.Need-order-faults-requires
+order-faults-requires : tie.Need-order_faults-order-requires
 order-faults-requires c κs = let w = inside c.before.before.before.before.before in (w.first, w.second)
 
-unused-fault-requires : tie.Need-unused-fault-requires
+unused-fault-requires : tie.Need-unused_fault-unused-requires
 unused-fault-requires c κs = let w = inside c.before.before.before.before.before.before in (w.head, w.rest)
 
-returns-2 : tie.Need-returns-2
+returns-2 : tie.Need-returns
 unfolding runs_of unused_of
 returns-2 c =
-    let d = c.before.before.before in
-    let limits = d.before.before.before.before.before.before.before.enum_told.given.1 in
+    let limits = c.in_default.is in
     body-answered
     _
     _
     _
     _
     _
-    d.before.before.before.before.before.before.before.before.before.before.args.body
+    c.args.body
     _
     _
     _
     limits
-    d.before.before.range-faults.ensures
-    d.before.order-faults.ensures
-    d.unused-fault.ensures
-    c.before.before.refuse.ensures
-    c.before.refuse2.ensures
-    c.refuse3.ensures
+    c.range_faults-range.ensures
+    c.order_faults-order.ensures
+    c.unused_fault-unused.ensures
+    c.refuse-after_order.ensures
+    c.refuse-after_range.ensures
+    c.refuse.ensures
 
 pub layout_test_spec : {M : Type 1} → statement M
 layout_test_spec =

@@ -7,7 +7,7 @@ use Rattle.layouts.proofs.order_faults.Tie as tie
 
 returns : tie.Need-returns
 returns c =
-    or_else-same _ _ _ _ _ c.or_else.ensures c.before.before.order-fault.ensures (c.before.order-fault2.ensures ∙ sym (or_else-nowhere _))
+    or_else-same _ _ _ _ _ c.or_else.ensures c.order_fault.ensures (c.order_fault-2.ensures ∙ sym (or_else-nowhere _))
 
 pub order_faults_spec : {M : Type 1} → statement M
 order_faults_spec =

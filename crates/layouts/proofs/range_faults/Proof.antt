@@ -7,7 +7,7 @@ use Rattle.layouts.proofs.range_faults.Tie as tie
 
 returns : tie.Need-returns
 returns c =
-    or_else-same _ _ _ _ _ c.or_else.ensures c.before.before.range-fault.ensures (c.before.range-fault2.ensures ∙ sym (or_else-nowhere _))
+    or_else-same _ _ _ _ _ c.or_else.ensures c.range_fault.ensures (c.range_fault-2.ensures ∙ sym (or_else-nowhere _))
 
 pub range_faults_spec : {M : Type 1} → statement M
 range_faults_spec =

@@ -7,7 +7,7 @@ use Rattle.layouts.proofs.unused_fault.Tie as tie
 
 returns : tie.Need-returns
 returns c =
-    or_else-same _ _ _ _ _ c.or_else.ensures c.before.before.zero-fault.ensures (c.before.zero-fault2.ensures ∙ sym (or_else-nowhere _))
+    or_else-same _ _ _ _ _ c.or_else.ensures c.zero_fault.ensures (c.zero_fault-2.ensures ∙ sym (or_else-nowhere _))
 
 pub unused_fault_spec : {M : Type 1} → statement M
 unused_fault_spec =

@@ -6,9 +6,6 @@ use borrow.Author.Rules.{rules}
 use Rattle.row_reads.proofs.count.Statement.{statement}
 use Rattle.row_reads.proofs.count.Tie as tie
 
-row : (c : tie.Start) → Row c.args.row
-row c = search rules
-
 returns : tie.Need-returns
 returns c = size-row _ (search rules)
 
@@ -18,9 +15,9 @@ count_spec =
     (tie.spec
     (λ c. search rules)
     (λ c. search rules)
-    (λ c. omega (arith, ones-le-row _ (row c)))
+    (λ c. let r : Row c.args.row = search rules in omega (arith, ones-le-row _ r))
     (λ c. search rules)
-    (λ c. omega (arith, ones-le-row _ (row c)))
+    (λ c. let r : Row c.args.row = search rules in omega (arith, ones-le-row _ r))
     (λ c. search rules)
-    (λ c. omega (arith, ones-le-row _ (row c)))
+    (λ c. let r : Row c.args.row = search rules in omega (arith, ones-le-row _ r))
     returns)

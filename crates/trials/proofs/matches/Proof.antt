@@ -26,10 +26,10 @@ slot-carries-requires c κs =
     (p.1, p.0.label l.i l.invariant.0 c.loop-i-test.true)
 
 returns : tie.Need-returns-then-not-slot_carries invariant-loop decreases-loop
-returns c = let l = c.loop-i in sym (l.invariant.1 ∙ matches-fail _ _ l.i _ (omega arith) (sym c.slot_carries.ensures ∙ not-true _ c.if-not-slot_carries.true))
+returns c = let l = c.loop-i in sym (l.invariant.1 ∙ matches-fail _ _ l.i _ (omega arith) (sym c.slot_carries.ensures ∙ c.if-not-slot_carries.true))
 
 loop-again : tie.Need-loop-i-preserved invariant-loop decreases-loop
-loop-again c = let l = c.loop-i in (omega arith, l.invariant.1 ∙ matches-skip _ _ l.i _ (omega arith) (sym c.slot_carries.ensures ∙ not-false _ c.if-not-slot_carries.false))
+loop-again c = let l = c.loop-i in (omega arith, l.invariant.1 ∙ matches-skip _ _ l.i _ (omega arith) (sym c.slot_carries.ensures ∙ c.if-not-slot_carries.false))
 
 returns-2 : tie.Need-returns invariant-loop decreases-loop
 returns-2 c = let l = c.loop-i in sym (l.invariant.1 ∙ matches-done _ _ l.i _ (omega arith))

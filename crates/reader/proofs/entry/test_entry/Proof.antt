@@ -12,38 +12,37 @@ use Rattle.reader.proofs.Answers.{entry_rest, entry-framed, frame-long, entry-co
 use Rattle.reader.proofs.entry.test_entry.Statement.{statement}
 use Rattle.reader.proofs.entry.test_entry.Tie as tie
 
-passes : (c : tie.After-enum-told) → first_refusal (frame c.before.before.before.before.args.block.now) ≡ Passed
-passes c = sym c.before.before.frame.ensures.tested ∙ c.enum_told.given.1
+passes : (c : tie.In_default) → first_refusal (frame c.args.block.now) ≡ Passed
+passes c = sym c.frame-framed.ensures.tested ∙ c.in_default.is
 
-long : (c : tie.After-enum-told) → length c.before.before.before.before.args.block.now ≡ 512
-long c = frame-long c.before.before.before.before.args.block.now (passes c)
+long : (c : tie.In_default) → length c.args.block.now ≡ 512
+long c = frame-long c.args.block.now (passes c)
 
-used : (c : tie.After-enum-told) → UsedEnd c.before.before.before.before.args.block.now c.before.before.frame.result.end
-used c = c.before.before.frame.ensures.used c.enum_told.given.1
+used : (c : tie.In_default) → UsedEnd c.args.block.now c.frame-framed.result.end
+used c = c.frame-framed.ensures.used c.in_default.is
 
-returns : tie.Need-returns
+returns : tie.Need-returns-in-Refused
 returns c =
-    let d = c.before.before.before in
-    let b = d.before.before.args.block.now in
-    sym (append-refused (frame b) (entry_rest b) _ (sym d.frame.ensures.tested ∙ c.before.tested.given.1)) ∙ ap first_refusal (sym (entry-framed _ b))
+    let b = c.args.block.now in
+    sym (append-refused (frame b) (entry_rest b) _ (sym c.frame-framed.ensures.tested ∙ c.in-Refused.is)) ∙ ap first_refusal (sym (entry-framed _ b))
 
-shared-slice-read-kind : tie.Need-shared-slice-read-kind
+shared-slice-read-kind : tie.Need-bounds-block-0
 shared-slice-read-kind c = omega (arith, long c.before)
 
-container-test-requires : tie.Need-container-test-requires
-container-test-requires c κs = let t = c.before.before in (long t, used t)
+container-test-requires : tie.Need-container_test-requires
+container-test-requires c κs = (long c.before.before, used c.before.before)
 
-returns-2 : tie.Need-returns-2
-returns-2 c = c.container-test.ensures ∙ sym (entry-container _ _ (passes c.before.before.before) c.before.if1.true)
+returns-2 : tie.Need-returns-then-kind-eq67
+returns-2 c = c.container_test.ensures ∙ sym (entry-container _ _ (passes c.before.before.before) c.if-kind-eq67.true)
 
-policy-test-requires : tie.Need-policy-test-requires
-policy-test-requires c κs = let t = c.before.before.before in (long t, used t)
+policy-test-requires : tie.Need-policy_test-requires
+policy-test-requires c κs = (long c.before.before.before, used c.before.before.before)
 
-returns-3 : tie.Need-returns-3
-returns-3 c = c.policy-test.ensures ∙ sym (entry-policy _ _ (passes c.before.before.before.before) c.before.if2.true)
+returns-3 : tie.Need-returns-then-kind-eq80
+returns-3 c = c.policy_test.ensures ∙ sym (entry-policy _ _ (passes c.before.before.before.before) c.if-kind-eq80.true)
 
-returns-4 : tie.Need-returns-4
-returns-4 c = sym (entry-kind _ _ (passes c.before.before.before) c.before.if1.false c.if2.false)
+returns-4 : tie.Need-returns
+returns-4 c = sym (entry-kind _ _ (passes c.before.before.before) c.if-kind-eq67.false c.if-kind-eq80.false)
 
 pub test_entry_spec : {M : Type 1} → statement M
 test_entry_spec =

@@ -12,12 +12,12 @@ use Rattle.reader.proofs.settings.settings_fault.Tie as tie
 returns : tie.Need-returns
 unfolding settings_fault
 returns c =
-    let k = c.before.before.before.wide2 in
-    let v = c.before.before.number_at in
-    let b = c.before.before.before.before.before.before.before.before.before.before.args.block.now in
+    let k = c.wide-key in
+    let v = c.number_at-value in
+    let b = c.args.block.now in
     or_else-same _ _ _ _ _ c.or_else.ensures
-    (unless-same _ _ _ _ c.before.before.before.before.before.unless.ensures (c.before.before.before.before.before.before.within.ensures ∙ ap (within 1 64) c.before.before.before.before.before.before.before.wide.ensures.0))
-    (c.before.system-fault.ensures ∙ ap (λ (x : ℕ). system_fault x v.result) k.ensures.0 ∙ ap (λ (x : ℕ). system_fault (byte_at b 2) x) v.ensures.0)
+    (unless-same _ _ _ _ c.unless-user.ensures (c.within.ensures ∙ ap (within 1 64) c.wide.ensures.0))
+    (c.system_fault.ensures ∙ ap (λ (x : ℕ). system_fault x v.result) k.ensures.0 ∙ ap (λ (x : ℕ). system_fault (byte_at b 2) x) v.ensures.0)
 
 pub settings_fault_spec : {M : Type 1} → statement M
 settings_fault_spec =

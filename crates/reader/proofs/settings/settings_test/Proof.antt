@@ -11,34 +11,33 @@ use Rattle.reader.proofs.Answers.{settings_rest, settings-framed, frame-long, se
 use Rattle.reader.proofs.settings.settings_test.Statement.{statement}
 use Rattle.reader.proofs.settings.settings_test.Tie as tie
 
-passes : (c : tie.After-enum-told) → first_refusal (frame c.before.before.before.before.args.block.now) ≡ Passed
-passes c = sym c.before.before.frame-test.ensures ∙ c.enum_told.given.1
+passes : (c : tie.In_default) → first_refusal (frame c.args.block.now) ≡ Passed
+passes c = sym c.frame_test-framed.ensures ∙ c.in_default.is
 
-long : (c : tie.After-enum-told) → length c.before.before.before.before.args.block.now ≡ 512
-long c = frame-long c.before.before.before.before.args.block.now (passes c)
+long : (c : tie.In_default) → length c.args.block.now ≡ 512
+long c = frame-long c.args.block.now (passes c)
 
-returns : tie.Need-returns
+returns : tie.Need-returns-in-Refused
 returns c =
-    let d = c.before.before.before in
-    let b = d.before.before.args.block.now in
-    sym (append-refused (frame b) (settings_rest b) _ (sym d.frame-test.ensures ∙ c.before.framed.given.1)) ∙ ap first_refusal (sym (settings-framed b))
+    let b = c.args.block.now in
+    sym (append-refused (frame b) (settings_rest b) _ (sym c.frame_test-framed.ensures ∙ c.in-Refused.is)) ∙ ap first_refusal (sym (settings-framed b))
 
-shared-slice-read-if1 : tie.Need-shared-slice-read-if1
+shared-slice-read-if1 : tie.Need-bounds-block-0
 shared-slice-read-if1 c = omega (arith, long c.before)
 
-returns-2 : tie.Need-returns-2
-returns-2 c = sym (settings-kind _ (passes c.before.before) c.if1.true)
+returns-2 : tie.Need-returns-then-block-ne83
+returns-2 c = sym (settings-kind _ (passes c.before.before) c.if-block-ne83.true)
 
-settings-fault-requires : tie.Need-settings-fault-requires
+settings-fault-requires : tie.Need-settings_fault-fault-requires
 settings-fault-requires c κs = long c.before.before
 
-unused-fault-requires : tie.Need-unused-fault-requires
+unused-fault-requires : tie.Need-unused_fault-unused-requires
 unused-fault-requires c κs = omega (arith, long c.before.before.before)
 
-returns-3 : tie.Need-returns-3
+returns-3 : tie.Need-returns
 returns-3 c =
-    refuse-same _ _ _ _ _ _ c.refuse2.ensures c.before.before.before.settings-fault.ensures (refuse-same _ _ _ _ _ _ c.before.refuse.ensures c.before.before.unused-fault.ensures refl)
-    ∙ sym (settings-laid _ (passes c.before.before.before.before.before.before) c.before.before.before.before.if1.false)
+    refuse-same _ _ _ _ _ _ c.refuse.ensures c.settings_fault-fault.ensures (refuse-same _ _ _ _ _ _ c.refuse-after_range.ensures c.unused_fault-unused.ensures refl)
+    ∙ sym (settings-laid _ (passes c.before.before.before.before.before.before) c.if-block-ne83.false)
 
 pub settings_test_spec : {M : Type 1} → statement M
 settings_test_spec =

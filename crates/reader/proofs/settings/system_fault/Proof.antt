@@ -6,7 +6,7 @@ use Rattle.reader.proofs.settings.system_fault.Tie as tie
 
 returns : tie.Need-returns
 returns c =
-    or_else-same _ _ _ _ _ c.or_else.ensures c.before.before.before.unless.ensures (unless-same _ _ _ _ c.before.unless2.ensures c.before.before.value-fits.ensures)
+    or_else-same _ _ _ _ _ c.or_else.ensures c.unless.ensures (unless-same _ _ _ _ c.unless-2.ensures c.value_fits.ensures)
 
 pub system_fault_spec : {M : Type 1} → statement M
 system_fault_spec =

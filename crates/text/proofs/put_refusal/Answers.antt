@@ -1,0 +1,17 @@
+-- A named number and, behind it, the refusal are the line.
+use native.Mathlib.Omega.{arith}
+use borrow.Author.Rules.{rules}
+use Rattle.text.specs.Lines.{refused_line}
+use Rattle.buffer.proofs.BufferLaws.{puts_then}
+use Rattle.digits.proofs.DecimalLaws.{decimal-short}
+use Rattle.text.proofs.put_refusal.Goals as goal
+
+pub returns : goal.returns
+unfolding refused_line
+returns c = record {
+    puts = puts_then c.put_named-next.ensures.0 c.put_number.ensures.0;
+    upper_bound = omega arith;
+  }
+
+pub put_number-requires : goal.put_number-requires
+put_number-requires c = let h = decimal-short c.args.refusal c.requires in ?
