@@ -3,29 +3,26 @@ use Rattle.sets.proofs.Candidates.{selects-within, allows-within, selected-known
 use Rattle.all_sets.proofs.fill_by_labels.Statement.{statement}
 use Rattle.all_sets.proofs.fill_by_labels.Tie as tie
 
-enter-all-requires : tie.Need-enter-all-requires
-enter-all-requires c κs = c.before.before.requires.0.0
+enter-all-requires : tie.Need-enter_all-requires
+enter-all-requires c κs = c.requires.0.0
 
-mark-all-requires : tie.Need-mark-all-requires
-mark-all-requires c κs = (c.before.before.before.before.before.requires.0.0, empty-rows 1024)
+mark-all-requires : tie.Need-mark_all-requires
+mark-all-requires c κs = (c.requires.0.0, empty-rows 1024)
 
 fill-requires : tie.Need-fill-requires
 fill-requires c κs =
-    let m = c.before.before.before in
-    let p = m.before.before.before.before.before.before.requires in
-    ((p.0.0, selects-within _ p.0.0, m.mark-all.ensures), selected-known _ p.0.1 p.1.selected)
+    let p = c.requires in
+    ((p.0.0, selects-within _ p.0.0, c.mark_all.ensures), selected-known _ p.0.1 p.1.selected)
 
 fill-requires-2 : tie.Need-fill-requires-2
 fill-requires-2 c κs =
-    let m = c.before.before.before.before.before.before.before in
-    let p = m.before.before.before.before.before.before.requires in
-    ((p.0.0, allows-within _ p.0.0, m.mark-all.ensures), allowed-known _ p.0.1 p.1.allowed)
+    let p = c.requires in
+    ((p.0.0, allows-within _ p.0.0, c.mark_all.ensures), allowed-known _ p.0.1 p.1.allowed)
 
 returns : tie.Need-returns
 returns c =
-    let f = c.before.before.before.before in
-    let e = f.before.before.before.before.before.before.before.before.before.before.requires.0.1 in
-    record { selected = selected-rows _ e f.fill.ensures; allowed = allowed-rows _ e c.fill2.ensures }
+    let e = c.requires.0.1 in
+    record { selected = selected-rows _ e c.fill.ensures; allowed = allowed-rows _ e c.fill-2.ensures }
 
 pub fill_by_labels_spec : {M : Type 1} → statement M
 fill_by_labels_spec = tie.close (tie.spec enter-all-requires mark-all-requires fill-requires fill-requires-2 returns)

@@ -8,20 +8,19 @@ use Rattle.sets.proofs.Candidates.{sets-none}
 use Rattle.all_sets.proofs.fill_sets.Statement.{statement}
 use Rattle.all_sets.proofs.fill_sets.Tie as tie
 
-policies-standing-requires : tie.Need-policies-standing-requires
-policies-standing-requires c κs = formed-whole _ c.before.requires.0.0
+policies-standing-requires : tie.Need-policies_standing-requires
+policies-standing-requires c κs = formed-whole _ c.requires.0.0
 
-returns : tie.Need-returns
+returns : tie.Need-returns-then-is_empty
 returns c =
-    let e = c.before in
-    let p = e.before.before.before.requires in
-    sets-none _ (sym (e.is-empty.ensures ∙ ap (λ s. not (has_some s)) e.before.policies-standing.ensures) ∙ c.if1.true) p.1
+    let p = c.requires in
+    sets-none _ (sym (c.is_empty.ensures ∙ ap (λ s. not (has_some s)) c.policies_standing.ensures) ∙ c.if-is_empty.true) p.1
 
-fill-by-labels-requires : tie.Need-fill-by-labels-requires
-fill-by-labels-requires c κs = c.before.before.before.before.before.before.requires
+fill-by-labels-requires : tie.Need-fill_by_labels-requires
+fill-by-labels-requires c κs = c.requires
 
-returns-2 : tie.Need-returns-2
-returns-2 c = c.fill-by-labels.ensures
+returns-2 : tie.Need-returns
+returns-2 c = c.fill_by_labels.ensures
 
 pub fill_sets_spec : {M : Type 1} → statement M
 fill_sets_spec = tie.close (tie.spec policies-standing-requires (λ c κs. search rules) returns fill-by-labels-requires returns-2)

@@ -6,8 +6,8 @@ use Rattle.files.proofs.FileLaws.{file-size, entries-at-most}
 use Rattle.files.proofs.file_length.Statement.{statement}
 use Rattle.files.proofs.file_length.Tie as tie
 
-few : (c : tie.After-count-policies) → c.before.count-containers.result + c.count-policies.result ≤ 384
-few c = omega (arith, entries-at-most _ c.before.before.before.requires.entries, c.before.count-containers.ensures, c.count-policies.ensures)
+few : (c : tie.After-count_policies) → c.count_containers.result + c.count_policies.result ≤ 384
+few c = omega (arith, entries-at-most _ c.requires.entries, c.count_containers.ensures, c.count_policies.ensures)
 
 pub file_length_spec : {M : Type 1} → statement M
 file_length_spec =
@@ -18,4 +18,4 @@ file_length_spec =
     (λ c. let h = few c in search rules)
     (λ c. let h = few c in search rules)
     (λ c. let h = few c in search rules)
-    (λ c. omega (arith, file-size _ c.before.before.before.requires.entries, c.before.count-containers.ensures, c.count-policies.ensures)))
+    (λ c. omega (arith, file-size _ c.requires.entries, c.count_containers.ensures, c.count_policies.ensures)))

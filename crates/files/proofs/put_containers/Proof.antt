@@ -10,33 +10,29 @@ use Rattle.files.proofs.FileLaws.{free-container, taken-container}
 use Rattle.files.proofs.put_containers.Statement.{statement}
 use Rattle.files.proofs.put_containers.Tie as tie
 
-abbrev invariant-loop : tie.invariant-loop
+abbrev invariant-loop : tie.invariant-loop-c
 invariant-loop memory bytes₀ start at₀ c₀ bytes at c = TablePut container_block (model_in memory).containers bytes₀ start bytes at c
 
-abbrev decreases-loop : tie.decreases-loop
+abbrev decreases-loop : tie.decreases-loop-c
 decreases-loop memory bytes₀ start at₀ c₀ bytes at c = 256 - c
 
-write-container-requires : tie.Need-write-container-requires invariant-loop decreases-loop
-write-container-requires c κs = (c.before.before.before.before.before.before.before.requires.0, search rules, search rules, omega arith)
+write-container-requires : tie.Need-write_container-requires invariant-loop decreases-loop
+write-container-requires c κs = (c.requires.0, search rules, search rules, omega arith)
 
-roomy : (c : tie.Then1 invariant-loop decreases-loop) → c.before.before.before.loop.at + 512 ≤ length c.before.before.before.loop.bytes
+roomy : (c : tie.Then-memory-slot-ne0 invariant-loop decreases-loop) → c.loop-c.at + 512 ≤ length c.loop-c.bytes
 roomy c =
-    let l = c.before.before.before in
-    room l.loop.invariant (taken-container l.before.before.before.requires.0 c.before.before.loop-test.true c.if1.true)
+    room c.loop-c.invariant (taken-container c.requires.0 c.loop-c-test.true c.if-memory-slot-ne0.true)
 
-loop-again : tie.Need-loop-preserved invariant-loop decreases-loop
+loop-again : tie.Need-loop-c-preserved-then-memory-slot-ne0 invariant-loop decreases-loop
 loop-again c =
-    let t = c.before.before.before.before in
-    let l = t.before.before.before in
-    appends l.loop.invariant (taken-container l.before.before.before.requires.0 t.before.before.loop-test.true t.if1.true) c.before.before.write-container.ensures
+    appends c.loop-c.invariant (taken-container c.requires.0 c.loop-c-test.true c.if-memory-slot-ne0.true) c.write_container.ensures
 
-loop-again-2 : tie.Need-loop-preserved-2 invariant-loop decreases-loop
+loop-again-2 : tie.Need-loop-c-preserved invariant-loop decreases-loop
 loop-again-2 c =
-    let l = c.before.before.before in
-    skips l.loop.invariant (free-container l.before.before.before.requires.0 c.before.before.loop-test.true c.if1.false)
+    skips c.loop-c.invariant (free-container c.requires.0 c.loop-c-test.true c.if-memory-slot-ne0.false)
 
 returns : tie.Need-returns invariant-loop decreases-loop
-returns c = ends c.before.loop.invariant (omega (arith, c.before.before.before.before.requires.0.entries.containers))
+returns c = ends c.loop-c.invariant (omega (arith, c.requires.0.entries.containers))
 
 pub put_containers_spec : {M : Type 1} → statement M
 put_containers_spec =
@@ -44,7 +40,7 @@ put_containers_spec =
     (tie.spec
     invariant-loop
     decreases-loop
-    (λ c. begins c.before.before.requires.1)
+    (λ c. begins c.requires.1)
     (λ c. search rules)
     (λ c. search rules)
     (λ c. search rules)
@@ -59,5 +55,5 @@ put_containers_spec =
     loop-again
     (λ c. search rules)
     loop-again-2
-    (λ c. size c.before.loop.invariant)
+    (λ c. size c.loop-c.invariant)
     returns)

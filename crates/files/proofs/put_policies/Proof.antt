@@ -10,33 +10,29 @@ use Rattle.files.proofs.FileLaws.{free-policy, taken-policy}
 use Rattle.files.proofs.put_policies.Statement.{statement}
 use Rattle.files.proofs.put_policies.Tie as tie
 
-abbrev invariant-loop : tie.invariant-loop
+abbrev invariant-loop : tie.invariant-loop-q
 invariant-loop memory bytes₀ start at₀ q₀ bytes at q = TablePut policy_block (model_in memory).policies bytes₀ start bytes at q
 
-abbrev decreases-loop : tie.decreases-loop
+abbrev decreases-loop : tie.decreases-loop-q
 decreases-loop memory bytes₀ start at₀ q₀ bytes at q = 128 - q
 
-write-policy-requires : tie.Need-write-policy-requires invariant-loop decreases-loop
-write-policy-requires c κs = (c.before.before.before.before.before.before.before.requires.0, search rules, search rules, omega arith)
+write-policy-requires : tie.Need-write_policy-requires invariant-loop decreases-loop
+write-policy-requires c κs = (c.requires.0, search rules, search rules, omega arith)
 
-roomy : (c : tie.Then1 invariant-loop decreases-loop) → c.before.before.before.loop.at + 512 ≤ length c.before.before.before.loop.bytes
+roomy : (c : tie.Then-memory-slot-ne0 invariant-loop decreases-loop) → c.loop-q.at + 512 ≤ length c.loop-q.bytes
 roomy c =
-    let l = c.before.before.before in
-    room l.loop.invariant (taken-policy l.before.before.before.requires.0 c.before.before.loop-test.true c.if1.true)
+    room c.loop-q.invariant (taken-policy c.requires.0 c.loop-q-test.true c.if-memory-slot-ne0.true)
 
-loop-again : tie.Need-loop-preserved invariant-loop decreases-loop
+loop-again : tie.Need-loop-q-preserved-then-memory-slot-ne0 invariant-loop decreases-loop
 loop-again c =
-    let t = c.before.before.before.before in
-    let l = t.before.before.before in
-    appends l.loop.invariant (taken-policy l.before.before.before.requires.0 t.before.before.loop-test.true t.if1.true) c.before.before.write-policy.ensures
+    appends c.loop-q.invariant (taken-policy c.requires.0 c.loop-q-test.true c.if-memory-slot-ne0.true) c.write_policy.ensures
 
-loop-again-2 : tie.Need-loop-preserved-2 invariant-loop decreases-loop
+loop-again-2 : tie.Need-loop-q-preserved invariant-loop decreases-loop
 loop-again-2 c =
-    let l = c.before.before.before in
-    skips l.loop.invariant (free-policy l.before.before.before.requires.0 c.before.before.loop-test.true c.if1.false)
+    skips c.loop-q.invariant (free-policy c.requires.0 c.loop-q-test.true c.if-memory-slot-ne0.false)
 
 returns : tie.Need-returns invariant-loop decreases-loop
-returns c = ends c.before.loop.invariant (omega (arith, c.before.before.before.before.requires.0.entries.policies))
+returns c = ends c.loop-q.invariant (omega (arith, c.requires.0.entries.policies))
 
 pub put_policies_spec : {M : Type 1} → statement M
 put_policies_spec =
@@ -44,7 +40,7 @@ put_policies_spec =
     (tie.spec
     invariant-loop
     decreases-loop
-    (λ c. begins c.before.before.requires.1)
+    (λ c. begins c.requires.1)
     (λ c. search rules)
     (λ c. search rules)
     (λ c. search rules)
@@ -59,5 +55,5 @@ put_policies_spec =
     loop-again
     (λ c. search rules)
     loop-again-2
-    (λ c. size c.before.loop.invariant)
+    (λ c. size c.loop-q.invariant)
     returns)

@@ -13,33 +13,29 @@ use borrow.Author.Rules.{rules}
 use Rattle.holders.proofs.holding_word.Statement.{statement}
 use Rattle.holders.proofs.holding_word.Tie as tie
 
-abbrev invariant-loop : tie.invariant-loop
+abbrev invariant-loop : tie.invariant-loop-i
 invariant-loop sets first c those₀ word i₀ those i = (i ≤ 64) × (bit those ≡ holding_set i (λ k. bits sets (first + k)) c)
 
-abbrev decreases-loop : tie.decreases-loop
+abbrev decreases-loop : tie.decreases-loop-i
 decreases-loop sets first c those₀ word i₀ those i = 64 - i
 
-loop-holds : tie.Need-loop-init invariant-loop decreases-loop
+loop-holds : tie.Need-loop-i-init invariant-loop decreases-loop
 loop-holds c = let x = c.args in (omega arith, holding-none (bits x.sets.now) x.c x.first)
 
-loop-again : tie.Need-loop-preserved invariant-loop decreases-loop
+loop-again : tie.Need-loop-i-preserved-then-bit_of invariant-loop decreases-loop
 loop-again c =
-    let b = c.before.before in
-    let t = b.before.before in
-    let l = t.before.loop in
-    let x = t.before.before.args in
-    (omega (arith, t.loop-test.true), holding-take (bits x.sets.now) x.c x.first l.i l.those _ l.invariant.1 t.loop-test.true c.word-with.ensures (sym (b.bit-of.ensures ∙ bit-of-row (get_or x.sets.now (x.first + l.i) []) x.c) ∙ c.before.if1.true))
+    let l = c.loop-i in
+    let x = c.args in
+    (omega (arith, c.loop-i-test.true), holding-take (bits x.sets.now) x.c x.first l.i l.those _ l.invariant.1 c.loop-i-test.true c.word_with-those.ensures (sym (c.bit_of.ensures ∙ bit-of-row (get_or x.sets.now (x.first + l.i) []) x.c) ∙ c.if-bit_of.true))
 
-loop-again-2 : tie.Need-loop-preserved-2 invariant-loop decreases-loop
+loop-again-2 : tie.Need-loop-i-preserved invariant-loop decreases-loop
 loop-again-2 c =
-    let b = c.before in
-    let t = b.before.before in
-    let l = t.before.loop in
-    let x = t.before.before.args in
-    (omega (arith, t.loop-test.true), holding-skip (bits x.sets.now) x.c x.first l.i l.those l.invariant.1 (sym (b.bit-of.ensures ∙ bit-of-row (get_or x.sets.now (x.first + l.i) []) x.c) ∙ c.if1.false))
+    let l = c.loop-i in
+    let x = c.args in
+    (omega (arith, c.loop-i-test.true), holding-skip (bits x.sets.now) x.c x.first l.i l.those l.invariant.1 (sym (c.bit_of.ensures ∙ bit-of-row (get_or x.sets.now (x.first + l.i) []) x.c) ∙ c.if-bit_of.false))
 
 returns : tie.Need-returns invariant-loop decreases-loop
-returns c = let e : c.before.loop.i ≡ 64 = omega arith in rw e at c.before.loop.invariant.1
+returns c = let e : c.loop-i.i ≡ 64 = omega arith in rw e at c.loop-i.invariant.1
 
 pub holding_word_spec : {M : Type 1} → statement M
 holding_word_spec =

@@ -11,32 +11,28 @@ use Rattle.joins.proofs.JoinLaws.{lines_none, lines-skip, lines-take}
 use Rattle.joins.proofs.join_all.Statement.{statement}
 use Rattle.joins.proofs.join_all.Tie as tie
 
-abbrev invariant-loop : tie.invariant-loop
+abbrev invariant-loop : tie.invariant-loop-p
 invariant-loop lines₀ tests rows some policies p₀ lines p = (p ≤ 128) × LinesAre p (bit_at some) (bit_at policies) (bits tests) (bits rows) lines
 
-abbrev decreases-loop : tie.decreases-loop
+abbrev decreases-loop : tie.decreases-loop-p
 decreases-loop lines₀ tests rows some policies p₀ lines p = 128 - p
 
-loop-holds : tie.Need-loop-init invariant-loop decreases-loop
+loop-holds : tie.Need-loop-p-init invariant-loop decreases-loop
 loop-holds c = (omega arith, lines_none c.requires)
 
-join-rows-requires : tie.Need-join-rows-requires invariant-loop decreases-loop
-join-rows-requires c κs = c.before.before.before.before.before.before.before.loop.invariant.1.size
+join-rows-requires : tie.Need-join_rows-requires invariant-loop decreases-loop
+join-rows-requires c κs = c.loop-p.invariant.1.size
 
-loop-again : tie.Need-loop-preserved invariant-loop decreases-loop
+loop-again : tie.Need-loop-p-preserved-then-bit_of invariant-loop decreases-loop
 loop-again c =
-    let w = c.before.before in
-    let t = w.before.before.before in
-    let l = t.before.before in
-    (omega (arith, l.loop-test.true), lines-take l.before.loop.invariant.1 (sym (t.before.bit-of.ensures ∙ bit-of-row _ _) ∙ t.if1.true) w.both.ensures refl c.join-rows.ensures)
+    (omega (arith, c.loop-p-test.true), lines-take c.loop-p.invariant.1 (sym (c.bit_of.ensures ∙ bit-of-row _ _) ∙ c.if-bit_of.true) c.both-those.ensures refl c.join_rows.ensures)
 
-loop-again-2 : tie.Need-loop-preserved-2 invariant-loop decreases-loop
+loop-again-2 : tie.Need-loop-p-preserved invariant-loop decreases-loop
 loop-again-2 c =
-    let l = c.before.before in
-    (omega (arith, l.loop-test.true), lines-skip l.before.loop.invariant.1 (sym (c.before.bit-of.ensures ∙ bit-of-row _ _) ∙ c.if1.false))
+    (omega (arith, c.loop-p-test.true), lines-skip c.loop-p.invariant.1 (sym (c.bit_of.ensures ∙ bit-of-row _ _) ∙ c.if-bit_of.false))
 
 returns : tie.Need-returns invariant-loop decreases-loop
-returns c = let e : c.before.loop.p ≡ 128 = omega (arith, c.before.loop.invariant.0, c.loop-test.false) in rw e at c.before.loop.invariant.1
+returns c = let e : c.loop-p.p ≡ 128 = omega (arith, c.loop-p.invariant.0, c.loop-p-test.false) in rw e at c.loop-p.invariant.1
 
 pub join_all_spec : {M : Type 1} → statement M
 join_all_spec =

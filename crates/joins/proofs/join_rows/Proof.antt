@@ -6,31 +6,23 @@ use Rattle.joins.proofs.JoinLaws.{joined-both, joined-row}
 use Rattle.joins.proofs.join_rows.Statement.{statement}
 use Rattle.joins.proofs.join_rows.Tie as tie
 
-join-word-requires : tie.Need-join-word-requires
-join-word-requires c κs = (c.before.requires, omega arith)
+join-word-requires : tie.Need-join_word-requires
+join-word-requires c κs = (c.requires, omega arith)
 
-join-word-requires-2 : tie.Need-join-word-requires-2
-join-word-requires-2 c κs = let a = c.before in (a.join-word.ensures.size ∙ a.before.before.requires, omega arith)
+join-word-requires-2 : tie.Need-join_word-requires-2
+join-word-requires-2 c κs = (c.join_word.ensures.size ∙ c.requires, omega arith)
 
-join-word-requires-3 : tie.Need-join-word-requires-3
+join-word-requires-3 : tie.Need-join_word-requires-3
 join-word-requires-3 c κs =
-    let b = c.before in
-    let a = b.before.before in
-    (b.join-word2.ensures.size ∙ a.join-word.ensures.size ∙ a.before.before.requires, omega arith)
+    (c.join_word-2.ensures.size ∙ c.join_word.ensures.size ∙ c.requires, omega arith)
 
-join-word-requires-4 : tie.Need-join-word-requires-4
+join-word-requires-4 : tie.Need-join_word-requires-4
 join-word-requires-4 c κs =
-    let d = c.before in
-    let b = d.before.before in
-    let a = b.before.before in
-    (d.join-word3.ensures.size ∙ b.join-word2.ensures.size ∙ a.join-word.ensures.size ∙ a.before.before.requires, omega arith)
+    (c.join_word-3.ensures.size ∙ c.join_word-2.ensures.size ∙ c.join_word.ensures.size ∙ c.requires, omega arith)
 
 returns : tie.Need-returns
 returns c =
-    let d = c.before.before in
-    let b = d.before.before in
-    let a = b.before.before in
-    joined-row _ (search rules) (joined-both (joined-both (joined-both a.join-word.ensures b.join-word2.ensures) d.join-word3.ensures) c.join-word4.ensures)
+    joined-row _ (search rules) (joined-both (joined-both (joined-both c.join_word.ensures c.join_word-2.ensures) c.join_word-3.ensures) c.join_word-4.ensures)
 
 pub join_rows_spec : {M : Type 1} → statement M
 join_rows_spec =

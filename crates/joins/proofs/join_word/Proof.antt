@@ -10,32 +10,29 @@ use Rattle.joins.proofs.JoinLaws.{Joining, joining-none, joining-next, joining-a
 use Rattle.joins.proofs.join_word.Statement.{statement}
 use Rattle.joins.proofs.join_word.Tie as tie
 
-abbrev invariant-loop : tie.invariant-loop
+abbrev invariant-loop : tie.invariant-loop-rest
 invariant-loop lines₀ word first whom rest₀ lines rest = Joining first word (bit_at whom) lines₀ lines rest
 
-abbrev decreases-loop : tie.decreases-loop
+abbrev decreases-loop : tie.decreases-loop-rest
 decreases-loop lines₀ word first whom rest₀ lines rest = rest
 
 -- the lowest number of the rest, and that its row is one of the lines
-lowest : (t : tie.In-loop invariant-loop decreases-loop) → Lowest (bit t.before.loop.rest) 0 64 (count_trailing_zeros 64 t.before.loop.rest)
-lowest t = trailing 64 t.before.loop.rest t.before.loop.invariant.small (omega (arith, t.loop-test.true))
+lowest : (t : tie.In-loop-rest invariant-loop decreases-loop) → Lowest (bit t.loop-rest.rest) 0 64 (count_trailing_zeros 64 t.loop-rest.rest)
+lowest t = trailing 64 t.loop-rest.rest t.loop-rest.invariant.small (omega (arith, t.loop-rest-test.true))
 
-inside : (t : tie.In-loop invariant-loop decreases-loop) → t.before.before.args.first + count_trailing_zeros 64 t.before.loop.rest < 256
-inside t = omega (arith, (lowest t).below, t.before.before.requires.1)
+inside : (t : tie.In-loop-rest invariant-loop decreases-loop) → t.args.first + count_trailing_zeros 64 t.loop-rest.rest < 256
+inside t = omega (arith, (lowest t).below, t.requires.1)
 
-loop-holds : tie.Need-loop-init invariant-loop decreases-loop
+loop-holds : tie.Need-loop-rest-init invariant-loop decreases-loop
 loop-holds c = joining-none _ _ _ _ c.ranges.word.fits
 
-loop-again : tie.Need-loop-preserved invariant-loop decreases-loop
+loop-again : tie.Need-loop-rest-preserved invariant-loop decreases-loop
 loop-again c =
-    let w = c.before.before in
-    let t = w.before in
-    let l = t.before in
-    let d = w.without-lowest.ensures in
-    joining-next _ _ _ _ l.loop.invariant _ (lowest t).there d.0 d.1 _ (omega (arith, inside t, l.loop.invariant.size, l.before.requires.0)) c.either.ensures
+    let d = c.without_lowest-rest.ensures in
+    joining-next _ _ _ _ c.loop-rest.invariant _ (lowest c.before.before.before).there d.0 d.1 _ (omega (arith, inside c.before.before.before, c.loop-rest.invariant.size, c.requires.0)) c.either-next.ensures
 
 returns : tie.Need-returns invariant-loop decreases-loop
-returns c = joining-all _ _ _ _ c.before.loop.invariant (omega arith)
+returns c = joining-all _ _ _ _ c.loop-rest.invariant (omega arith)
 
 pub join_word_spec : {M : Type 1} → statement M
 join_word_spec =

@@ -4,14 +4,14 @@ use Rattle.sets.proofs.Candidates.{allows-within, allowed-set}
 use Rattle.policy_sets.proofs.allowed_row.Statement.{statement}
 use Rattle.policy_sets.proofs.allowed_row.Tie as tie
 
-part-row-requires : tie.Need-part-row-requires
-part-row-requires c κs = let p = c.before.requires in (p.0, p.1, allows-within _ p.0)
+part-row-requires : tie.Need-part_row-requires
+part-row-requires c κs = let p = c.requires in (p.0, p.1, allows-within _ p.0)
 
 returns : tie.Need-returns
 returns c =
-    let x = c.before.before.args in
-    let p = c.before.before.requires in
-    (rw p.2 at c.part-row.ensures) ∙ allowed-set x.memory.now x.q p.1
+    let x = c.args in
+    let p = c.requires in
+    (rw p.2 at c.part_row.ensures) ∙ allowed-set x.memory.now x.q p.1
 
 pub allowed_row_spec : {M : Type 1} → statement M
 allowed_row_spec = tie.close (tie.spec part-row-requires returns)

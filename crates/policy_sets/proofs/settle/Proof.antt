@@ -7,12 +7,8 @@ use Rattle.policy_sets.proofs.settle.Tie as tie
 
 returns : tie.Need-returns
 returns c =
-    let b = c.before.before in
-    let a = b.before.before.before.before in
-    let w = a.before.before in
-    let s = w.before.before in
-    let p = s.before.before.before.requires in
-    (settled-image _ p.0 _ p.1 _ _ a.set-row.ensures b.set-row2.ensures s.selected-row.ensures w.allowed-row.ensures (λ k. omega (arith, c.slice-known3.given k)), s.selected-row.ensures)
+    let p = c.requires in
+    (settled-image _ p.0 _ p.1 _ _ c.set_row.ensures c.set_row-2.ensures c.selected_row-selected.ensures c.allowed_row-allowed.ensures (λ k. omega (arith, c.slice_known-3-1.given k)), c.selected_row-selected.ensures)
 
 pub settle_spec : {M : Type 1} → statement M
 settle_spec =

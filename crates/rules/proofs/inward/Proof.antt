@@ -6,8 +6,7 @@ use Rattle.rules.proofs.inward.Tie as tie
 
 returns : tie.Need-returns
 returns c =
-    let s = c.before.before.before.before in
-    lets-by-these _ s.pick.ensures s.before.requires.1 c.before.before.except.ensures c.before.both.ensures c.either.ensures
+    lets-by-these _ c.pick-those.ensures c.requires.1 c.except.ensures c.both.ensures c.either.ensures
 
 pub inward_spec : {M : Type 1} → statement M
 inward_spec = tie.close (tie.spec (λ c κs. search rules) (λ c κs. search rules) (λ c κs. search rules) (λ c κs. search rules) returns)

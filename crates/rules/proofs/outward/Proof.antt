@@ -5,11 +5,11 @@ use Rattle.rules.proofs.Unions.{lets-chosen, lets-free}
 use Rattle.rules.proofs.outward.Statement.{statement}
 use Rattle.rules.proofs.outward.Tie as tie
 
-returns : tie.Need-returns
-returns c = let t = c.before.before in c.both.ensures ∙ lets-chosen _ t.before.pick.ensures t.if1.true
+returns : tie.Need-returns-then-those
+returns c = c.both.ensures ∙ lets-chosen _ c.pick-those.ensures c.if-those.true
 
-returns-2 : tie.Need-returns-2
-returns-2 c = lets-free _ c.before.pick.ensures c.if1.false
+returns-2 : tie.Need-returns
+returns-2 c = lets-free _ c.pick-those.ensures c.if-those.false
 
 pub outward_spec : {M : Type 1} → statement M
 outward_spec = tie.close (tie.spec (λ c κs. search rules) (λ c κs. search rules) returns returns-2)

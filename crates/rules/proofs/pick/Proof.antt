@@ -11,27 +11,25 @@ use Rattle.rules.proofs.Unions.{Picking, pick-none, pick-skip, pick-take, pick_a
 use Rattle.rules.proofs.pick.Statement.{statement}
 use Rattle.rules.proofs.pick.Tie as tie
 
-abbrev invariant-loop : tie.invariant-loop
+abbrev invariant-loop : tie.invariant-loop-p
 invariant-loop tests rows a policies any₀ joined₀ word p₀ any joined p = Picking 128 (bit_at policies) (bits tests) (bits rows) a any joined p
 
-abbrev decreases-loop : tie.decreases-loop
+abbrev decreases-loop : tie.decreases-loop-p
 decreases-loop tests rows a policies any₀ joined₀ word p₀ any joined p = 128 - p
 
-loop-holds : tie.Need-loop-init invariant-loop decreases-loop
-loop-holds c = pick-none c.none.ensures
+loop-holds : tie.Need-loop-p-init invariant-loop decreases-loop
+loop-holds c = pick-none c.none-joined.ensures
 
-loop-again : tie.Need-loop-preserved invariant-loop decreases-loop
+loop-again : tie.Need-loop-p-preserved-then-bit_of invariant-loop decreases-loop
 loop-again c =
-    let b = c.before.before.before in
-    pick-take b.before.before.before.before.loop.invariant (omega arith) (ap₂ ◌&&◌ (sym (b.before.before.bit-of.ensures ∙ bit-of-row _ _)) (sym (b.bit-of2.ensures ∙ bit-of-row _ _)) ∙ c.before.before.if1.true) c.either.ensures
+    pick-take c.loop-p.invariant (omega arith) (ap₂ ◌&&◌ (sym (c.bit_of.ensures ∙ bit-of-row _ _)) (sym (c.bit_of-in-loop-p.ensures ∙ bit-of-row _ _)) ∙ c.if-bit_of.true) c.either-next.ensures
 
-loop-again-2 : tie.Need-loop-preserved-2 invariant-loop decreases-loop
+loop-again-2 : tie.Need-loop-p-preserved invariant-loop decreases-loop
 loop-again-2 c =
-    let b = c.before in
-    pick-skip b.before.before.before.before.loop.invariant (omega arith) (ap₂ ◌&&◌ (sym (b.before.before.bit-of.ensures ∙ bit-of-row _ _)) (sym (b.bit-of2.ensures ∙ bit-of-row _ _)) ∙ c.if1.false)
+    pick-skip c.loop-p.invariant (omega arith) (ap₂ ◌&&◌ (sym (c.bit_of.ensures ∙ bit-of-row _ _)) (sym (c.bit_of-in-loop-p.ensures ∙ bit-of-row _ _)) ∙ c.if-bit_of.false)
 
 returns : tie.Need-returns invariant-loop decreases-loop
-returns c = pick_all c.before.loop.invariant (omega arith)
+returns c = pick_all c.loop-p.invariant (omega arith)
 
 pub pick_spec : {M : Type 1} → statement M
 pick_spec =

@@ -10,27 +10,25 @@ use Rattle.rules.proofs.Unions.{Uniting, uniting-none, uniting-skip, uniting-tak
 use Rattle.rules.proofs.union_of.Statement.{statement}
 use Rattle.rules.proofs.union_of.Tie as tie
 
-abbrev invariant-loop : tie.invariant-loop
+abbrev invariant-loop : tie.invariant-loop-p
 invariant-loop rows policies joined₀ p₀ joined p = Uniting 128 (bit_at policies) (bits rows) joined p
 
-abbrev decreases-loop : tie.decreases-loop
+abbrev decreases-loop : tie.decreases-loop-p
 decreases-loop rows policies joined₀ p₀ joined p = 128 - p
 
-loop-holds : tie.Need-loop-init invariant-loop decreases-loop
-loop-holds c = uniting-none c.none.ensures
+loop-holds : tie.Need-loop-p-init invariant-loop decreases-loop
+loop-holds c = uniting-none c.none-joined.ensures
 
-loop-again : tie.Need-loop-preserved invariant-loop decreases-loop
+loop-again : tie.Need-loop-p-preserved-then-bit_of invariant-loop decreases-loop
 loop-again c =
-    let b = c.before.before.before in
-    uniting-take b.before.before.loop.invariant (omega arith) (sym (b.bit-of.ensures ∙ bit-of-row _ _) ∙ c.before.before.if1.true) c.either.ensures
+    uniting-take c.loop-p.invariant (omega arith) (sym (c.bit_of.ensures ∙ bit-of-row _ _) ∙ c.if-bit_of.true) c.either-next.ensures
 
-loop-again-2 : tie.Need-loop-preserved-2 invariant-loop decreases-loop
+loop-again-2 : tie.Need-loop-p-preserved invariant-loop decreases-loop
 loop-again-2 c =
-    let b = c.before in
-    uniting-skip b.before.before.loop.invariant (omega arith) (sym (b.bit-of.ensures ∙ bit-of-row _ _) ∙ c.if1.false)
+    uniting-skip c.loop-p.invariant (omega arith) (sym (c.bit_of.ensures ∙ bit-of-row _ _) ∙ c.if-bit_of.false)
 
 returns : tie.Need-returns invariant-loop decreases-loop
-returns c = uniting-all c.before.loop.invariant (omega arith)
+returns c = uniting-all c.loop-p.invariant (omega arith)
 
 pub union_of_spec : {M : Type 1} → statement M
 union_of_spec =

@@ -7,23 +7,23 @@ use Rattle.sets.proofs.Candidates.{Filled, fill_none, fill-next, fill-skip, fill
 use Rattle.sets.proofs.fill.Statement.{statement}
 use Rattle.sets.proofs.fill.Tie as tie
 
-abbrev invariant-loop : tie.invariant-loop
+abbrev invariant-loop : tie.invariant-loop-next
 invariant-loop sets₀ known memory table rows offset candidates next₀ sets next = Filled 128 known (part_set memory (bit_at candidates) offset) sets next
 
-abbrev decreases-loop : tie.decreases-loop
+abbrev decreases-loop : tie.decreases-loop-next
 decreases-loop sets₀ known memory table rows offset candidates next₀ sets next = 128 - next
 
-loop-holds : tie.Need-loop-init invariant-loop decreases-loop
-loop-holds c = fill_none c.before.requires.1
+loop-holds : tie.Need-loop-next-init invariant-loop decreases-loop
+loop-holds c = fill_none c.requires.1
 
-loop-again : tie.Need-loop-preserved invariant-loop decreases-loop
-loop-again c = let t = c.before.before in fill-next t.before.loop.invariant t.loop-test.true _ c.before.if1.true c.part-by-labels.ensures
+loop-again : tie.Need-loop-next-preserved-then-q-known invariant-loop decreases-loop
+loop-again c = fill-next c.loop-next.invariant c.loop-next-test.true _ c.if-q-known.true c.part_by_labels-row.ensures
 
-loop-again-2 : tie.Need-loop-preserved-2 invariant-loop decreases-loop
-loop-again-2 c = fill-skip c.before.before.loop.invariant c.before.loop-test.true c.if1.false
+loop-again-2 : tie.Need-loop-next-preserved invariant-loop decreases-loop
+loop-again-2 c = fill-skip c.loop-next.invariant c.loop-next-test.true c.if-q-known.false
 
 returns : tie.Need-returns invariant-loop decreases-loop
-returns c = fill-all c.before.loop.invariant c.loop-test.false
+returns c = fill-all c.loop-next.invariant c.loop-next-test.false
 
 pub fill_spec : {M : Type 1} → statement M
 fill_spec =
