@@ -95,7 +95,7 @@ pub fn inward(
 
 // What a line of the matrix is worked out from, beside each policy's two sets: the standing containers, the policies of the line's
 // direction, those of the other, and what those select.
-#[derive(Drop)]
+#[derive(Clone, Copy)]
 pub struct Sides {
     pub standing: [u64; 4],
     pub out: [u64; 4],

@@ -7,16 +7,13 @@ use Rattle.container_changes.proofs.put_container.Tie as tie
 
 refresh-requires : tie.Need-refresh-requires
 refresh-requires c κs =
-    let w = c.before.before.before in
-    let p = w.before.before.before.before.requires in
-    (put_entries _ p.0 _ _ (accepted-valid _ _ _ p.2) w.place-container.ensures, p.1)
+    let p = c.requires in
+    (put_entries _ p.0 _ _ (accepted-valid _ _ _ p.2) c.place_container.ensures, p.1)
 
 returns : tie.Need-returns
 returns c =
-    let r = c.before.before in
-    let w = r.before.before.before.before in
-    let p = w.before.before.before.before.requires in
-    put-done _ p.0 _ _ (accepted-valid _ _ _ p.2) w.place-container.ensures r.refresh.ensures
+    let p = c.requires in
+    put-done _ p.0 _ _ (accepted-valid _ _ _ p.2) c.place_container.ensures c.refresh.ensures
 
 pub put_container_spec : {M : Type 1} → statement M
 put_container_spec = tie.close (tie.spec (λ c κs. search rules) refresh-requires (λ c. search rules) returns)

@@ -7,8 +7,7 @@ use Rattle.container_findings.proofs.all_isolated.Tie as tie
 
 returns : tie.Need-returns
 returns c =
-    let k = c.before.before.before in
-    column-row _ _ _ k.requires.slots c.before.column-is.ensures c.zero-if.ensures ∙ isolated-row k.args.memory.now k.args.a k.requires.here
+    column-row _ _ _ c.requires.slots c.column_is.ensures c.zero_if.ensures ∙ isolated-row c.args.memory.now c.args.a c.requires.here
 
 pub all_isolated_spec : {M : Type 1} → statement M
 all_isolated_spec = tie.close (tie.spec (λ c κs. search rules) (λ c κs. search rules) returns)

@@ -7,8 +7,7 @@ use Rattle.container_findings.proofs.all_reachable.Tie as tie
 
 returns : tie.Need-returns
 returns c =
-    let k = c.before.before.before in
-    column-row _ _ _ k.requires.slots c.before.column-is.ensures c.zero-if.ensures ∙ reachable-row k.args.memory.now k.args.a k.requires.here
+    column-row _ _ _ c.requires.slots c.column_is.ensures c.zero_if.ensures ∙ reachable-row c.args.memory.now c.args.a c.requires.here
 
 pub all_reachable_spec : {M : Type 1} → statement M
 all_reachable_spec = tie.close (tie.spec (λ c κs. search rules) (λ c κs. search rules) returns)

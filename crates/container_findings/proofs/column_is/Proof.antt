@@ -13,54 +13,52 @@ use Rattle.container_findings.proofs.Passed.{Passed, passed_none, passed-one, pa
 use Rattle.container_findings.proofs.column_is.Statement.{statement}
 use Rattle.container_findings.proofs.column_is.Tie as tie
 
-abbrev invariant-loop : tie.invariant-loop
+abbrev invariant-loop : tie.invariant-loop-c
 invariant-loop memory set a wanted from₀ from = Passed (bit_at set) (column_as (bits_in memory) a wanted) from
 
-abbrev decreases-loop : tie.decreases-loop
+abbrev decreases-loop : tie.decreases-loop-c
 decreases-loop memory set a wanted from₀ from = 256 - from
 
 -- what the search found is the lowest number left
-lowest : (f : tie.After-found invariant-loop decreases-loop) → Lowest (bit_at f.before.before.before.before.before.args.set) f.before.before.before.loop.from 256 f.found.given.0.0
-lowest f = lowest-at _ _ (sym f.before.before.next-from.ensures ∙ f.found.given.1)
+lowest : (f : tie.In-At invariant-loop decreases-loop) → Lowest (bit_at f.args.set) f.loop-c.from 256 f.in-At.c
+lowest f = lowest-at _ _ (sym f.next_from-found.ensures ∙ f.in-At.is)
 
-loop-holds : tie.Need-loop-init invariant-loop decreases-loop
+loop-holds : tie.Need-loop-c-init invariant-loop decreases-loop
 loop-holds c = passed_none _ _
 
-returns : tie.Need-returns invariant-loop decreases-loop
-returns c = sym (passed-all _ _ _ c.before.before.before.loop.invariant (lowest-nothing _ _ (sym c.before.before.next-from.ensures ∙ c.enum_told.given.1)))
+returns : tie.Need-returns-in_default invariant-loop decreases-loop
+returns c = sym (passed-all _ _ _ c.loop-c.invariant (lowest-nothing _ _ (sym c.next_from-found.ensures ∙ c.in_default.is)))
 
-add-from : tie.Need-overflow-add-from invariant-loop decreases-loop
-add-from c = let j = (lowest c.before).below in search rules
+add-from : tie.Need-overflow_add-from invariant-loop decreases-loop
+add-from c = let j = (lowest c).below in search rules
 
-mul-word : tie.Need-overflow-mul-word invariant-loop decreases-loop
-mul-word c = let j = (lowest c.before).below in search rules
+mul-word : tie.Need-overflow_mul-word invariant-loop decreases-loop
+mul-word c = let j = (lowest c).below in search rules
 
-add-word : tie.Need-overflow-add-word invariant-loop decreases-loop
-add-word c = let j = (lowest c.before).below in search rules
+add-word : tie.Need-overflow_add-word invariant-loop decreases-loop
+add-word c = let j = (lowest c).below in search rules
 
-add-word-2 : tie.Need-overflow-add-word-2 invariant-loop decreases-loop
-add-word-2 c = let j = (lowest c.before).below in search rules
+add-word-2 : tie.Need-overflow_add-word-in-loop-c invariant-loop decreases-loop
+add-word-2 c = let j = (lowest c).below in search rules
 
-mul-word-2 : tie.Need-overflow-mul-word-2 invariant-loop decreases-loop
-mul-word-2 c = let j = (lowest c.before).below in search rules
+mul-word-2 : tie.Need-offset_bounds-memory-c invariant-loop decreases-loop
+mul-word-2 c = let j = (lowest c).below in search rules
 
-shared-slice-read-word : tie.Need-shared-slice-read-word invariant-loop decreases-loop
-shared-slice-read-word c = let j = (lowest c.before.before).below in search rules
+shared-slice-read-word : tie.Need-bounds-memory-c invariant-loop decreases-loop
+shared-slice-read-word c = let j = (lowest c.before).below in search rules
 
-returns-2 : tie.Need-returns-2 invariant-loop decreases-loop
+returns-2 : tie.Need-returns-then-bit_of-wanted invariant-loop decreases-loop
 returns-2 c =
-    let f = c.before.before.before.before in
-    sym (passed-not _ _ _ f.before.before.before.loop.invariant _ (lowest f)
-    (column-no _ _ _ (lowest f).below f.before.before.before.before.before.requires.1 _ c.before.bit-of.ensures c.if1.true))
+    sym (passed-not _ _ _ c.loop-c.invariant _ (lowest c.before.before.before)
+    (column-no _ _ _ (lowest c.before.before.before).below c.requires.1 _ c.bit_of.ensures c.if-bit_of-wanted.true))
 
-loop-less : tie.Need-loop-smaller invariant-loop decreases-loop
-loop-less c = let j = lowest c.before.before.before.before in omega (arith, j.from, j.below)
+loop-less : tie.Need-loop-c-smaller invariant-loop decreases-loop
+loop-less c = let j = lowest c.before.before.before in omega (arith, j.from, j.below)
 
-loop-again : tie.Need-loop-preserved invariant-loop decreases-loop
+loop-again : tie.Need-loop-c-preserved invariant-loop decreases-loop
 loop-again c =
-    let f = c.before.before.before.before in
-    passed-one _ _ _ f.before.before.before.loop.invariant _ (lowest f)
-    (column-yes _ _ _ (lowest f).below f.before.before.before.before.before.requires.1 _ c.before.bit-of.ensures c.if1.false)
+    passed-one _ _ _ c.loop-c.invariant _ (lowest c.before.before.before)
+    (column-yes _ _ _ (lowest c.before.before.before).below c.requires.1 _ c.bit_of.ensures c.if-bit_of-wanted.false)
 
 pub column_is_spec : {M : Type 1} → statement M
 column_is_spec =

@@ -12,37 +12,33 @@ use Rattle.container_findings.proofs.ContainerRows.{system-none, system-row}
 use Rattle.container_findings.proofs.system_isolation.Statement.{statement}
 use Rattle.container_findings.proofs.system_isolation.Tie as tie
 
-returns : tie.Need-returns
+returns : tie.Need-returns-then-key-eq0
 returns c =
-    let p = c.before.before.before.before.requires in
-    c.none.ensures ∙ system-none _ _ p.here (system-unset _ p.formed _ p.here c.before.if1.true)
+    let p = c.requires in
+    c.none.ensures ∙ system-none _ _ p.here (system-unset _ p.formed _ p.here c.if-key-eq0.true)
 
-mul-word : tie.Need-overflow-mul-word
-mul-word c = let b = system-small _ c.before.before.before.requires.formed in omega (arith, b.0)
+mul-word : tie.Need-overflow_mul-word
+mul-word c = let b = system-small _ c.requires.formed in omega (arith, b.0)
 
-add-word : tie.Need-overflow-add-word
-add-word c = let b = system-small _ c.before.before.before.before.requires.formed in omega (arith, b.0, b.1)
+add-word : tie.Need-overflow_add-word
+add-word c = let b = system-small _ c.requires.formed in omega (arith, b.0, b.1)
 
 carries-requires : tie.Need-carries-requires
 carries-requires c κs =
-    let p = c.before.before.before.before.requires in
+    let p = c.requires in
     container-within _ p.formed.whole (formed-slots _ p.formed) _ p.below
 
-returns-2 : tie.Need-returns-2
+returns-2 : tie.Need-returns-then-not-carries
 returns-2 c =
-    let a = c.before.before in
-    let p = a.before.before.before.before.before.requires in
-    c.none2.ensures
-    ∙ system-none _ _ p.here (system-set _ p.formed _ p.here a.before.before.if1.false a.carries.ensures ∙ not-true _ c.before.if2.true)
+    let p = c.requires in
+    c.none-then-not-carries.ensures
+    ∙ system-none _ _ p.here (system-set _ p.formed _ p.here c.if-key-eq0.false c.carries.ensures ∙ c.if-not-carries.true)
 
-returns-3 : tie.Need-returns-3
+returns-3 : tie.Need-returns
 returns-3 c =
-    let w = c.before in
-    let r = w.before in
-    let a = r.before.before in
-    let p = a.before.before.before.before.before.requires in
-    c.except.ensures ∙ ap₂ less (w.without.ensures ∙ ap (remove _) p.slots) (ap bit_at r.row_at.ensures)
-    ∙ system-row _ _ p.here (system-set _ p.formed _ p.here a.before.before.if1.false a.carries.ensures ∙ not-false _ r.before.if2.false)
+    let p = c.requires in
+    c.except.ensures ∙ ap₂ less (c.without.ensures ∙ ap (remove _) p.slots) (ap bit_at c.row_at-reached.ensures)
+    ∙ system-row _ _ p.here (system-set _ p.formed _ p.here c.if-key-eq0.false c.carries.ensures ∙ c.if-not-carries.false)
 
 pub system_isolation_spec : {M : Type 1} → statement M
 system_isolation_spec =

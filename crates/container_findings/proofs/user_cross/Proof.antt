@@ -10,28 +10,25 @@ use Rattle.container_findings.proofs.user_cross.Statement.{statement}
 use Rattle.container_findings.proofs.user_cross.Tie as tie
 
 -- the others that a reaches
-others-are : (w : tie.After-without) → let k = w.before.before.before.before in bit_at w.without.result ≡ others k.args.memory.now k.args.a k.requires.here
+others-are : (w : tie.After-without-others) → bit_at w.without-others.result ≡ others w.args.memory.now w.args.a w.requires.here
 others-are w =
-    let k = w.before.before.before.before in
-    w.without.ensures ∙ ap (remove _) (w.before.both.ensures ∙ ap₂ meet k.requires.slots (ap bit_at w.before.before.row_at.ensures))
+    w.without-others.ensures ∙ ap (remove _) (w.both.ensures ∙ ap₂ meet w.requires.slots (ap bit_at w.row_at-reached.ensures))
 
-word-under-requires : tie.Need-word-under-requires
+word-under-requires : tie.Need-word_under-word-requires
 word-under-requires c κs =
-    let p = c.before.before.before.before.before.requires in
+    let p = c.requires in
     container-within _ p.formed.whole (formed-slots _ p.formed) _ p.below
 
-returns : tie.Need-returns
+returns : tie.Need-returns-then-word-eq0
 returns c =
-    let w = c.before in
-    let p = w.before.before.before.before.before.before.requires in
-    cross-all _ _ p.here p.formed (others-are w.before.before) w.word-under.ensures c.if1.true
+    let p = c.requires in
+    cross-all _ _ p.here p.formed (others-are c.before.before.before) c.word_under-word.ensures c.if-word-eq0.true
 
-returns-2 : tie.Need-returns-2
+returns-2 : tie.Need-returns
 returns-2 c =
-    let w = c.before.before.before in
-    let p = w.before.before.before.before.before.before.requires in
+    let p = c.requires in
     c.except.ensures
-    ∙ cross-row _ _ p.here p.formed (others-are w.before.before) w.word-under.ensures c.before.before.if1.false c.before.same-user.ensures
+    ∙ cross-row _ _ p.here p.formed (others-are c.before.before.before.before.before) c.word_under-word.ensures c.if-word-eq0.false c.same_user.ensures
 
 pub user_cross_spec : {M : Type 1} → statement M
 user_cross_spec =

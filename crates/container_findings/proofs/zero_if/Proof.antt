@@ -6,11 +6,11 @@ use Rattle.container_findings.proofs.KindRows.{zero-yes, zero-no}
 use Rattle.container_findings.proofs.zero_if.Statement.{statement}
 use Rattle.container_findings.proofs.zero_if.Tie as tie
 
-returns : tie.Need-returns
-returns c = c.with.ensures ∙ ap (insert 0) c.before.none.ensures ∙ zero-yes _ c.before.before.if1.true
+returns : tie.Need-returns-then-t
+returns c = c.with.ensures ∙ ap (insert 0) c.none.ensures ∙ zero-yes _ c.if-t.true
 
-returns-2 : tie.Need-returns-2
-returns-2 c = c.none2.ensures ∙ zero-no _ c.before.if1.false
+returns-2 : tie.Need-returns
+returns-2 c = c.none-2.ensures ∙ zero-no _ c.if-t.false
 
 pub zero_if_spec : {M : Type 1} → statement M
 zero_if_spec = tie.close (tie.spec (λ c κs. search rules) (λ c κs. search rules) returns (λ c κs. search rules) returns-2)

@@ -6,28 +6,24 @@ use Rattle.reach.proofs.SideLaws.{policies-length}
 use Rattle.matrix_rows.proofs.gather.Statement.{statement}
 use Rattle.matrix_rows.proofs.gather.Tie as tie
 
-fill-sets-requires : tie.Need-fill-sets-requires
-fill-sets-requires c κs = let p = c.before.before.before.requires in (p.0, p.1.0)
+fill-sets-requires : tie.Need-fill_sets-requires
+fill-sets-requires c κs = let p = c.requires in (p.0, p.1.0)
 
-sides-of-requires : tie.Need-sides-of-requires
-sides-of-requires c κs = (c.before.before.before.before.before.requires.0, (omega arith, omega arith))
+sides-of-requires : tie.Need-sides_of-sides-requires
+sides-of-requires c κs = (c.requires.0, (omega arith, omega arith))
 
 returns : tie.Need-returns
 unfolding direction_of
 returns c =
-    let w = c.before.before.before in
-    let o = w.before.before.before.before in
-    let d = o.before.before.before.before.before.before in
-    let f = d.before.before in
-    let sides = d.sides-of.ensures in
+    let sides = c.sides_of-sides.ensures in
     record {
       slots = policies-length _;
-      sets = f.fill-sets.ensures;
-      standing = f.before.before.before.before.requires.0.1;
-      bound = rw sides.out at c.before.union-of.ensures;
+      sets = c.fill_sets.ensures;
+      standing = c.requires.0.1;
+      bound = rw sides.out at c.union_of-bound.ensures;
       chosen = rw sides.back at sides.chosen;
-      out = rw sides.out at o.join-all.ensures;
-      back = rw sides.back at w.join-all2.ensures;
+      out = rw sides.out at c.join_all.ensures;
+      back = rw sides.back at c.join_all-2.ensures;
     }
 
 pub gather_spec : {M : Type 1} → statement M

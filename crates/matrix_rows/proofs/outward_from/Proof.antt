@@ -5,11 +5,11 @@ use Rattle.matrix_rows.proofs.RowLaws.{meet-yes, meet-no}
 use Rattle.matrix_rows.proofs.outward_from.Statement.{statement}
 use Rattle.matrix_rows.proofs.outward_from.Tie as tie
 
-returns : tie.Need-returns
-returns c = let t = c.before.before in c.both.ensures ∙ sym (meet-yes _ _ (sym t.before.has.ensures ∙ t.if1.true))
+returns : tie.Need-returns-then-has
+returns c = c.both.ensures ∙ sym (meet-yes _ _ (sym c.has.ensures ∙ c.if-has.true))
 
-returns-2 : tie.Need-returns-2
-returns-2 c = sym (meet-no _ _ (sym c.before.has.ensures ∙ c.if1.false))
+returns-2 : tie.Need-returns
+returns-2 c = sym (meet-no _ _ (sym c.has.ensures ∙ c.if-has.false))
 
 pub outward_from_spec : {M : Type 1} → statement M
 outward_from_spec =

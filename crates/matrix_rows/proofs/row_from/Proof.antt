@@ -8,18 +8,15 @@ use Rattle.matrix_rows.proofs.RowLaws.{free-row, gathered-row}
 use Rattle.matrix_rows.proofs.row_from.Statement.{statement}
 use Rattle.matrix_rows.proofs.row_from.Tie as tie
 
-returns : tie.Need-returns
-returns c = let t = c.before in record { is = λ x k. c.none.ensures ∙ free-row x _ (sym t.before.has.ensures ∙ not-true _ t.if1.true) }
+returns : tie.Need-returns-then-not-has
+returns c = record { is = λ x k. c.none.ensures ∙ free-row x _ (sym c.has.ensures ∙ c.if-not-has.true) }
 
-returns-2 : tie.Need-returns-2
+returns-2 : tie.Need-returns
 returns-2 c =
-    let e = c.before.before in
-    let o = e.before.before.before in
-    let t = o.before.before in
-    let f = sym t.before.has.ensures ∙ not-false _ t.if1.false in
+    let f = sym c.has.ensures ∙ c.if-not-has.false in
     record {
-      is = λ x k. c.either.ensures ∙ ap₂ join e.except.ensures c.before.both.ensures
-          ∙ gathered-row x _ t.before.before.before.requires (k (sym (point x.standing _) ∙ f)) f o.outward-from.ensures;
+      is = λ x k. c.either.ensures ∙ ap₂ join c.except.ensures c.both.ensures
+          ∙ gathered-row x _ c.requires (k (sym (point x.standing _) ∙ f)) f c.outward_from-there.ensures;
     }
 
 pub row_from_spec : {M : Type 1} → statement M

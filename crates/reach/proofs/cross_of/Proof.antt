@@ -9,27 +9,24 @@ use Rattle.reach.proofs.SideLaws.{policies-length, sides-exchanged}
 use Rattle.reach.proofs.cross_of.Statement.{statement}
 use Rattle.reach.proofs.cross_of.Tie as tie
 
-sides-of-requires : tie.Need-sides-of-requires
-sides-of-requires c κs = (c.before.requires.0, (omega arith, omega arith))
+sides-of-requires : tie.Need-sides_of-across-requires
+sides-of-requires c κs = (c.requires.0, (omega arith, omega arith))
 
-row-by-rules-requires : tie.Need-row-by-rules-requires
-row-by-rules-requires c κs = (c.before.before.requires.1.0, c.sides-of.ensures.chosen)
+row-by-rules-requires : tie.Need-row_by_rules-row-requires
+row-by-rules-requires c κs = (c.requires.1.0, c.sides_of-across.ensures.chosen)
 
-row-by-rules-requires-2 : tie.Need-row-by-rules-requires-2
-row-by-rules-requires-2 c κs = let a = c.before.before in (a.before.before.requires.1.0, (sides-exchanged a.sides-of.ensures c.exchanged.ensures).chosen)
+row-by-rules-requires-2 : tie.Need-row_by_rules-column-requires
+row-by-rules-requires-2 c κs = (c.requires.1.0, (sides-exchanged c.sides_of-across.ensures c.exchanged-down.ensures).chosen)
 
 returns : tie.Need-returns
 unfolding direction_of
 returns c =
-    let d = c.before in
-    let r = d.before in
-    let a = r.before in
-    let m = model_in a.before.before.args.memory.now in
-    let sets = a.before.before.requires.1.1 in
-    let across = a.sides-of.ensures in
-    let down = sides-exchanged across d.exchanged.ensures in (
-      r.row-by-rules.ensures ∙ row-law m (policies-length _) sets across.standing across.out across.back _,
-      c.row-by-rules2.ensures ∙ column-law m (policies-length _) sets down.standing down.out down.back _,
+    let m = model_in c.args.memory.now in
+    let sets = c.requires.1.1 in
+    let across = c.sides_of-across.ensures in
+    let down = sides-exchanged across c.exchanged-down.ensures in (
+      c.row_by_rules-row.ensures ∙ row-law m (policies-length _) sets across.standing across.out across.back _,
+      c.row_by_rules-column.ensures ∙ column-law m (policies-length _) sets down.standing down.out down.back _,
     )
 
 pub cross_of_spec : {M : Type 1} → statement M

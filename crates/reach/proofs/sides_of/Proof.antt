@@ -8,14 +8,12 @@ use Rattle.reach.proofs.sides_of.Tie as tie
 
 returns : tie.Need-returns
 returns c =
-    let b = c.before in
-    let o = b.before in
-    let p = o.before.before.requires in
+    let p = c.requires in
     record {
       standing = p.0.1;
-      out = o.of-direction.ensures;
-      back = b.of-direction2.ensures ∙ ap (direction_set _) (other-direction _ p.1.0 p.1.1);
-      chosen = c.union-of.ensures;
+      out = c.of_direction-out.ensures;
+      back = c.of_direction-back.ensures ∙ ap (direction_set _) (other-direction _ p.1.0 p.1.1);
+      chosen = c.union_of-chosen.ensures;
     }
 
 pub sides_of_spec : {M : Type 1} → statement M
