@@ -13,7 +13,7 @@ ghost use Rattle.arrivals.specs.Anew.{mask_of, set_anew, TouchedBy};
 use matrix_rows::Gathered;
 
 // What is set anew: these rows and columns of the matrix, the sets of these policies, and the bits of these containers in every set.
-#[derive(Drop)]
+#[derive(Clone, Copy)]
 struct Touched {
     rows: [u64; 4],
     columns: [u64; 4],

@@ -18,7 +18,7 @@ use block::{Refusal, Tested, numbers};
 use model::Tally;
 
 // How far a batch has come: what came, and the tally.
-#[derive(Drop)]
+#[derive(Clone, Copy)]
 pub struct Progress {
     pub came: Came,
     pub tally: Tally,

@@ -32,7 +32,7 @@ pub struct Settings {
 }
 
 // The settings of a refused block are all zero.
-#[derive(Drop)]
+#[derive(Clone, Copy)]
 pub struct SettingsReading {
     pub tested: Tested,
     pub settings: Settings,

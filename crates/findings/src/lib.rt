@@ -16,14 +16,14 @@ pub struct Cursor {
 }
 
 // The next finding and the cursor moved to it, or none.
-#[derive(Drop)]
+#[derive(Clone, Copy)]
 pub enum Step {
     Found(Finding, Cursor),
     Done,
 }
 
 // How many findings were put, and the cursor moved to the last of them.
-#[derive(Drop)]
+#[derive(Clone, Copy)]
 pub struct Put {
     pub count: usize,
     pub cursor: Cursor,

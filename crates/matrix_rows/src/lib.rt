@@ -9,7 +9,7 @@ ghost use Rattle.matrix_rows.specs.Rows.{meet_if, Gathers, RowFrom};
 
 // What rows of the matrix are read from, beside what was gathered for each container: the standing containers, those that an egress
 // policy selects, and those that an ingress policy selects.
-#[derive(Drop)]
+#[derive(Clone, Copy)]
 pub struct Gathered {
     pub standing: [u64; 4],
     pub bound: [u64; 4],

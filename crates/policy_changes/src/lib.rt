@@ -13,7 +13,7 @@ ghost use Rattle.policy_changes.specs.Region.{Touches};
 use model::PolicySlot;
 
 // Bits of the matrix: those in these rows and columns.
-#[derive(Drop)]
+#[derive(Clone, Copy)]
 pub struct Region {
     pub rows: [u64; 4],
     pub columns: [u64; 4],

@@ -68,7 +68,7 @@ fn exchanged(sides: Sides, selected: &[[u64; 4]; 128]) -> Sides
 }
 
 // A container's row and column of the matrix.
-#[derive(Drop)]
+#[derive(Clone, Copy)]
 pub struct Cross {
     pub row: [u64; 4],
     pub column: [u64; 4],

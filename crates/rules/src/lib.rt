@@ -6,7 +6,7 @@ ghost use Rattle.sets.specs.Sets.{bits};
 ghost use Rattle.rules.specs.Lets.{union, Picks, sets_let, sets_let_by, line};
 
 // Of some policies, those that pass a test: whether there are any, and the union of their rows.
-#[derive(Drop)]
+#[derive(Clone, Copy)]
 struct Picked {
     any: bool,
     joined: [u64; 4],
