@@ -11,22 +11,6 @@ use Rattle.arrivals.proofs.Came.{anew-settled, came-none}
 use Rattle.arrivals.proofs.settle_came.Statement.{statement}
 use Rattle.arrivals.proofs.settle_came.Tie as tie
 
--- from the standing containers to the function's start
-abbrev begun : tie.After-containers_standing-standing → tie.Start
-begun s = s.before.before.before.before.before.before
-
--- from where all is gathered to the standing containers
-abbrev counted : tie.After-gather-gathered → tie.After-containers_standing-standing
-counted g = g.before.before.before.before.before.before
-
--- from where what is touched is found to where all is gathered
-abbrev gathered : tie.After-touched_by-touched → tie.After-gather-gathered
-gathered t = t.before.before.before
-
--- from where the rows are to be set to what is touched
-abbrev found : tie.After-backs-2-1 → tie.After-touched_by-touched
-found w = w.before.before.before.before.before
-
 returns : tie.Need-returns-then-is_empty
 returns c =
     came-none _ c.requires _ _ c.either.ensures (row-bounded _ (search rules)) (not-true _ (sym c.is_empty.ensures ∙ c.if-is_empty.true))
@@ -39,18 +23,16 @@ gather-requires c κs = ((formed-entries _ c.requires, c.containers_standing-sta
 
 touched-by-requires : tie.Need-touched_by-touched-requires
 touched-by-requires c κs =
-    ((formed-entries _ (begun (counted c.before.before)).requires, c.containers_standing-standing.ensures), c.gather-gathered.ensures.sets.selected)
+    ((formed-entries _ c.requires, c.containers_standing-standing.ensures), c.gather-gathered.ensures.sets.selected)
 
 set-touched-requires : tie.Need-set_touched-requires
 set-touched-requires c κs =
-    let g = gathered (found c) in
-    (formed-entries _ (begun (counted g)).requires, rw g.containers_standing-standing.ensures at g.gather-gathered.ensures)
+    (formed-entries _ c.requires, rw c.containers_standing-standing.ensures at c.gather-gathered.ensures)
 
 returns-2 : tie.Need-returns
 unfolding registry_in
 returns-2 c =
-    let t = found c.before.before.before in
-    c.set_touched.ensures ∙ ap image (anew-settled _ t.touched_by-touched.ensures (formed-memory _ (begun (counted (gathered t))).requires).acceptable.bits)
+    c.set_touched.ensures ∙ ap image (anew-settled _ c.touched_by-touched.ensures (formed-memory _ c.requires).acceptable.bits)
 
 pub settle_came_spec : {M : Type 1} → statement M
 settle_came_spec =

@@ -33,24 +33,16 @@ row-at-requires : tie.Need-row_at-requires invariant-loop decreases-loop
 row-at-requires c κs = (formed-whole _ c.requires, omega (arith, c.loop-x-test.true))
 
 -- whether the row is by the rules
-module _ (c : tie.After-same invariant-loop decreases-loop) where
-  abbrev row : tie.After-row_of_bits-row invariant-loop decreases-loop
-  row = c.before.before
-
-  abbrev turn : tie.In-loop-x invariant-loop decreases-loop
-  turn = row.before.before.before.before.before
-
-  ruled : c.same.result ≡ ruled_row turn.before.before.before.before.before.before.before.before.before.args.memory.now turn.loop-x.x
-  ruled =
-      let g = turn.before.before in
-      same_rows _ _ _ c.row_at.ensures
-      (row.row_of_bits-row.ensures.is g.gather-gathered.ensures g.containers_standing-standing.ensures) c.same.ensures
+ruled : (c : tie.After-same invariant-loop decreases-loop) → c.same.result ≡ ruled_row c.args.memory.now c.loop-x.x
+ruled c =
+    same_rows _ _ _ c.row_at.ensures
+    (c.row_of_bits-row.ensures.is c.gather-gathered.ensures c.containers_standing-standing.ensures) c.same.ensures
 
 returns : tie.Need-returns-then-not-same invariant-loop decreases-loop
-returns c = let l = (turn c.before).before.loop in sym (l.invariant ∙ between-hit _ l.x _ (omega arith) (said-no (ruled c.before) c.if-not-same.true))
+returns c = let l = c.loop-x in sym (l.invariant ∙ between-hit _ l.x _ (omega arith) (said-no (ruled c.before) c.if-not-same.true))
 
 loop-again : tie.Need-loop-x-preserved invariant-loop decreases-loop
-loop-again c = let l = (turn c.before).before.loop in l.invariant ∙ between-skip _ l.x _ (omega arith) (said-yes (ruled c.before) c.if-not-same.false)
+loop-again c = let l = c.loop-x in l.invariant ∙ between-skip _ l.x _ (omega arith) (said-yes (ruled c.before) c.if-not-same.false)
 
 returns-2 : tie.Need-returns invariant-loop decreases-loop
 returns-2 c = sym (c.loop-x.invariant ∙ between_done _ c.loop-x.x _ c.loop-x-test.false)
