@@ -15,25 +15,24 @@ use native.Mathlib.Omega.{arith}
 use Rattle.writing.proofs.write.Statement.{statement}
 use Rattle.writing.proofs.write.Tie as tie
 
-returns : tie.Need-returns
+returns : tie.Need-returns-in-Refused
 returns c =
-    promised-refused _ _ _ _ (memory-refused _ _ (sym c.before.before.before.test-memory.ensures ∙ c.before.tested.given.1) _ refl)
+    promised-refused _ _ _ _ (memory-refused _ _ (sym c.test_memory-tested.ensures ∙ c.in-Refused.is) _ refl)
 
-formed : (c : tie.After-enum-told) → well_formed c.before.before.before.before.before.args.memory.now ≡ true
-formed c = memory-passed _ (sym c.before.before.test-memory.ensures ∙ c.enum_told.given.1)
+formed : (c : tie.In_default) → well_formed c.args.memory.now ≡ true
+formed c = memory-passed _ (sym c.test_memory-tested.ensures ∙ c.in_default.is)
 
 -- the file finds room
-room : (c : tie.Else1) → length (file_of (model_in c.before.before.before.before.before.before.before.args.memory.now)) ≤ length c.before.before.before.before.before.before.before.args.bytes.now
-room c = omega (arith, c.before.file-length.ensures, c.if1.false)
+room : (c : tie.Else-bytes-file_length) → length (file_of (model_in c.args.memory.now)) ≤ length c.args.bytes.now
+room c = omega (arith, c.file_length.ensures, c.if-bytes-file_length.false)
 
-returns-2 : tie.Need-returns-2
+returns-2 : tie.Need-returns-then-bytes-file_length
 returns-2 c =
-    promised-refused _ _ _ _ (write-short _ (formed c.before.before) _ (omega (arith, c.before.file-length.ensures, c.if1.true)))
+    promised-refused _ _ _ _ (write-short _ (formed c.before.before) _ (omega (arith, c.file_length.ensures, c.if-bytes-file_length.true)))
 
-returns-3 : tie.Need-returns-3
+returns-3 : tie.Need-returns
 returns-3 c =
-    let s = c.before.before.before.before in
-    file-written _ (formed s.before.before) (room s) c.before.before.put-file.ensures
+    file-written _ (formed c.before.before.before.before.before.before) (room c.before.before.before.before) c.put_file-count.ensures
 
 pub write_spec : {M : Type 1} → statement M
 write_spec =

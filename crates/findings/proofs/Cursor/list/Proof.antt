@@ -59,7 +59,7 @@ loop-less c = omega (arith, (small c.before.before.before.before.before.before.b
 
 loop-again : tie.Need-loop-kind-preserved-then-kind-a invariant-loop decreases-loop
 loop-again c =
-    listed-row _ c.loop-kind.invariant (small c.before.before.before.before.before.before.before).1 (room c.before.before.before.before.before.before.before.before).1 c.finding_row-row.ensures c.both.ensures c.before.before.before.before.at_least_lem.ensures c.put_row-at.ensures
+    listed-row _ c.loop-kind.invariant (small c.before.before.before.before.before.before.before).1 (room c.before.before.before.before.before.before.before.before).1 c.finding_row-row.ensures c.both.ensures c.at_least.ensures c.put_row-at.ensures
 
 add-kind : tie.Need-overflow_add-kind invariant-loop decreases-loop
 add-kind c = omega (arith, (room c.before).0)
