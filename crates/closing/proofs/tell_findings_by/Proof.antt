@@ -18,7 +18,7 @@ put-findings-requires c κs =
     let f = c.findings-answer in
     let k = count_most _ _ _ _ f.ensures.0 f.ensures.1.0 c.in-Findings.is in
     let w = count-within _ _ _ _ f.ensures.0 f.ensures.1.0 c.in-Findings.is in
-    let q : length f.new.1.1.0 ≡ length c.args.numbers.now = search rules in
+    let q : length f.new.list ≡ length c.args.numbers.now = search rules in
     omega (arith, c.requires, w, k, q)
 
 returns : tie.Need-returns-then-count-wanted
