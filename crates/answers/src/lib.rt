@@ -1,4 +1,6 @@
 // What the calls answer: a refusal's number alone, or what the call gives.
+#![tactic(auto)]
+
 use findings::Cursor;
 use model::{ContainerSlot, Finding, PolicySlot, Tally};
 

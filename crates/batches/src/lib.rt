@@ -1,4 +1,6 @@
 // A batch of admissions in one pass: its blocks are placed one after another, then what they touch is set once.
+#![tactic(auto)]
+
 ghost use Rattle.std.specs.Prelude.{◌≡◌, true, ◌+◌, ◌*◌, ◌/◌, ◌%◌, ◌≤◌, ◌<◌, length, take};
 ghost use Rattle.buffer.specs.Buffer.{overwritten};
 ghost use Rattle.block.specs.Cut.{blocks_of};

@@ -1,4 +1,6 @@
 // The findings after any three numbers, by the entries and the stored bits of a memory: as many as a list holds, or the next one.
+#![tactic(auto)]
+
 ghost use Rattle.std.specs.Prelude.{◌≡◌, true, map, ◌<◌, length};
 ghost use Rattle.buffer.specs.Buffer.{Puts};
 ghost use Rattle.model.specs.Findings.{next_after, walk, moved, finding_code};

@@ -1,4 +1,6 @@
 // Rows of the matrix, many at once: from what was gathered policy by policy.
+#![tactic(auto)]
+
 ghost use Rattle.std.specs.Prelude.{◌≡◌, ◌<◌};
 ghost use Rattle.bitrow.specs.Bit.{bit_at};
 ghost use Rattle.model.specs.Table.{stands};

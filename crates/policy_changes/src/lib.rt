@@ -1,4 +1,6 @@
 // A policy put at its slot or taken from it, and the bits of the matrix that it touches.
+#![tactic(auto)]
+
 ghost use Rattle.std.specs.Prelude.{◌≡◌, true, ◌<◌};
 ghost use Rattle.std.proofs.Math.Option.{none, some};
 ghost use Rattle.bitrow.specs.Bit.{bit_at};

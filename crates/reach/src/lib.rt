@@ -1,4 +1,6 @@
 // What a row and a column of the matrix are worked out from by the entries of a memory, and a container's row and column.
+#![tactic(auto)]
+
 ghost use Rattle.std.specs.Prelude.{◌≡◌, ◌≤◌, ◌<◌};
 ghost use Rattle.bitrow.specs.Bit.{bit_at};
 ghost use Rattle.block.specs.Reader.{direction_of};

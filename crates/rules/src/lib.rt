@@ -1,4 +1,6 @@
 // A row and a column of the matrix by the written rules, from each policy's two sets.
+#![tactic(auto)]
+
 ghost use Rattle.std.specs.Prelude.{◌≡◌, ◌<◌};
 ghost use Rattle.bitrow.specs.Bit.{bit_at};
 ghost use Rattle.bitrow.specs.Set.{meet};

@@ -1,5 +1,7 @@
 // The report's meaning: the types that its steps hand on. What a step does, what the whole sheet is, and that the text of all steps,
 // joined, is that sheet, is defined in specs/ and proved in proofs/.
+#![tactic(auto)]
+
 use findings::Cursor;
 
 #[derive(Clone, Copy)]

@@ -21,11 +21,10 @@ tested : (c : tie.After-test_entry-tested) → c.test_entry-tested.result ≡ fi
 tested c = tested-here _ _ c.test_entry-tested.ensures
 
 returns : tie.Need-returns-in-Refused
-returns c =
-    (
-      sym (block_refused _ _ c.requires.0 (λ i. omega (arith, c.slice_known-4-1.given i)) _ (sym (tested c.before) ∙ c.in-Refused.is)),
-      omega arith,
-    )
+returns c = (
+  sym (block_refused _ _ c.requires.0 (λ i. omega (arith, c.slice_known-4-1.given i)) _ (sym (tested c.before) ∙ c.in-Refused.is)),
+  omega arith,
+)
 
 passed : (c : tie.In_default) → let s = begun c.before in first_refusal (entry_checks (model_in s.args.memory.now).settings s.args.block.now) ≡ Passed
 passed c = sym (tested c.before) ∙ c.in_default.is

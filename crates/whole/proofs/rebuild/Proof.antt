@@ -32,13 +32,12 @@ set-row-requires c κs = (c.loop-r.invariant.0.held.whole, omega (arith, c.loop-
 
 loop-again : tie.Need-loop-r-preserved invariant-loop decreases-loop
 unfolding registry_in
-loop-again c =
-    (
-      rebuilding-next _ c.loop-r.invariant.0 (omega (arith, c.loop-r-test.true)) _
-          (c.row_of_bits-row.ensures.is c.gather-gathered.ensures c.containers_standing-standing.ensures)
-          c.set_row.ensures,
-      λ k. omega (arith, c.slice_known-in-loop-r-1.given k),
-    )
+loop-again c = (
+  rebuilding-next _ c.loop-r.invariant.0 (omega (arith, c.loop-r-test.true)) _
+      (c.row_of_bits-row.ensures.is c.gather-gathered.ensures c.containers_standing-standing.ensures)
+      c.set_row.ensures,
+  λ k. omega (arith, c.slice_known-in-loop-r-1.given k),
+)
 
 same_length : tie.Need-shape_of-memory invariant-loop decreases-loop
 same_length c = let h = c.loop-r.invariant.0.held.whole in let n = formed-whole _ c.requires in search rules
