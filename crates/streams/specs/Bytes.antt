@@ -1,0 +1,12 @@
+-- The input that is still to come, and what of a text was written.
+use Rattle.std.specs.Prelude.{ℕ, ◌≤◌, List, take, slice_range, Option}
+use Rattle.std.specs.Io.KnownBytes.{prepend_known, Appends}
+use Rattle.streams.specs.declared.Input.{Input}
+
+-- what was read and is still to be used, and then what the reader has left, where that is known
+abbrev pub to_come : List ℕ → Input → Option (List ℕ) → Option (List ℕ)
+to_come bytes input left = prepend_known (slice_range bytes input.at input.end) left
+
+-- known bytes grow by the first bytes of a text, at most n of them
+abbrev pub AppendsSome : Option (List ℕ) → Option (List ℕ) → List ℕ → ℕ → Type 0
+AppendsSome old new text n = (k : ℕ) × (k ≤ n) × Appends old new (take k text)
