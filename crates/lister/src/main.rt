@@ -2,11 +2,14 @@
 
 // The pump of the report: reads pieces of standard input, steps, and writes the text that was put, until the state says that the
 // sheet is whole. What the text is, crates `report` and `sheets` prove; what is not proved is that the system's streams hand on every byte.
-ghost use Rattle.std.specs.Prelude.{◌≡◌, ◌≤◌, length};
+ghost use Rattle.std.specs.Prelude.{◌≡◌, ◌≤◌, ◌<◌, ◌^◌, length, IfSome, OnOk, OnErr};
+ghost use Rattle.std.specs.Io.KnownBytes.{Appends};
 ghost use Rattle.store.specs.Layout.{memory_words};
+ghost use Rattle.sheets.specs.Sheet.{sheet};
+ghost use Rattle.streams.specs.Bytes.{AppendsSome};
 
 use std::fmt;
-use std::io::{Read, Write};
+use std::io::{self, Read, Write};
 use std::process::ExitCode;
 use std::time::Clock;
 
@@ -16,15 +19,15 @@ const PIECE: usize = 65536;
 // Why the sheet is not whole.
 #[derive(Clone, Copy)]
 enum Failure {
-    Unread,
-    Unwritten,
+    Unread(io::Error),
+    Unwritten(io::Error),
 }
 
 impl fmt::Display for Failure {
     fn fmt<W: fmt::Write>(&self, f: &mut fmt::Formatter<W>) -> fmt::Result {
         match self {
-            Failure::Unread => write!(f, "standard input cannot be read"),
-            Failure::Unwritten => write!(f, "standard output cannot be written"),
+            Failure::Unread(e) => write!(f, "standard input cannot be read: {e}"),
+            Failure::Unwritten(e) => write!(f, "standard output cannot be written: {e}"),
         }
     }
 }
@@ -40,17 +43,22 @@ fn pump<R: Read, W: Write>(
     out: &mut [u8],
 ) -> Result<(), Failure>
     requires { (length memory.old ≡ memory_words) × (length block.old ≡ 512) × (128 ≤ length out.old) }
+    ensures whole { OnOk result (IfSome (R.remaining reader.old) (λ input. 0 < length bytes.old → length input < 2 ^ 64
+        → Appends (W.contents writer.old) (W.contents writer.new) (sheet input))) }
+    ensures part { OnErr result (IfSome (R.remaining reader.old) (λ input. 0 < length bytes.old → length input < 2 ^ 64
+        → AppendsSome (W.contents writer.old) (W.contents writer.new) (sheet input) (length (sheet input)))) }
 {
     let mut state = report::start();
     let mut input = streams::nothing_read();
     while !report::finished(state) {
-        let Ok(next) = streams::refill(clock, reader, bytes, input) else {
-            return Err(Failure::Unread);
+        let next = match streams::refill(clock, reader, bytes, input) {
+            Ok(next) => next,
+            Err(e) => return Err(Failure::Unread(e)),
         };
         let piece = &bytes[next.at..next.end];
         let done = report::step(memory, block, piece, next.ended, out, state);
-        if streams::write(clock, writer, out, done.put).is_err() {
-            return Err(Failure::Unwritten);
+        if let Err(e) = streams::write(clock, writer, out, done.put) {
+            return Err(Failure::Unwritten(e));
         }
         input = streams::used(next, done.used);
         state = done.state;

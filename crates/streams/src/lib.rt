@@ -4,12 +4,15 @@
 ghost use Rattle.std.specs.Prelude.{◌≡◌, ◌⊎◌, ◌↔◌, IsTrue, true, false, ◌≤◌, ◌<◌, ◌+◌, length, take, Ok, IsOk, IfOk, OnOk, OnErr};
 ghost use Rattle.std.specs.IoError.{error_kind};
 ghost use Rattle.std.specs.Io.{ReadsAtMost, WritesAtMost};
-ghost use Rattle.std.specs.Io.KnownBytes.{Keeps, Appends, IsAtEnd, ReadConsumes, WriteAppends};
-ghost use Rattle.streams.specs.Bytes.{to_come, AppendsSome};
+ghost use Rattle.std.specs.Io.KnownBytes.{Keeps, Appends, ReadConsumes, WriteAppends};
+ghost use Rattle.streams.specs.Bytes.{to_come, TellsEnd, AppendsSome};
 
 use std::io::{self, Error, ErrorKind, Read, Write};
 use std::thread;
 use std::time::{Clock, Duration};
+
+#[cfg(test)]
+mod tests;
 
 // How often a call that failed for now is made again, with a pause before each.
 const TRIES: u32 = 1000;
@@ -72,7 +75,7 @@ pub fn refill<R: Read>(
     ensures fed { IfOk result (λ r. r.ended ≡ false → r.at < r.end) }
     ensures kept { (input.at < input.end → result ≡ Ok input) × (input.ended ≡ true → result ≡ Ok input) }
     ensures bytes { IfOk result (λ r. Keeps (to_come bytes.old input (R.remaining reader.old)) (to_come bytes.new r (R.remaining reader.new))) }
-    ensures end { IfOk result (λ r. r.ended ≡ true → input.ended ≡ false → 0 < length bytes.old → IsAtEnd (R.remaining reader.new)) }
+    ensures end { IfOk result (λ r. 0 < length bytes.old → TellsEnd input (R.remaining reader.old) → TellsEnd r (R.remaining reader.new)) }
     ensures err { OnErr result (Keeps (R.remaining reader.old) (R.remaining reader.new)) }
 {
     if input.at < input.end {
