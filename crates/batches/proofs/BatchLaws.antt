@@ -2,7 +2,7 @@
 use mathlib.Core.Path.{◌≡◌, refl, sym, ap, ap₂, subst, ◌∙◌}
 use mathlib.Core.Bool.{Bool, true}
 use mathlib.Core.List.{List, [], ◌∷◌, ◌++◌, map, map-append, append_assoc}
-use Prim.Native.Nat.{ℕ, ◌+◌, ◌*◌, ◌≤◌, ◌<◌}
+use Prim.Native.Nat.{ℕ, ◌+◌, ◌*◌, ◌≤◌}
 use native.Mathlib.Omega.{arith}
 use lib.ListN.{length, take, drop, set, length-set}
 use Rattle.bitrow.specs.Bit.{bit_at}
@@ -15,25 +15,23 @@ use Rattle.block.proofs.Cut.{blocks-count}
 use Rattle.model.specs.declared.Tally.{Tally}
 use Rattle.model.specs.Calls.{change, admit_batch, Answer, refusal, batch_put, numbers_of, pairs_of, written, tally_left, run}
 use Rattle.model.specs.Batch.{pair_of, is_taken, tallied_one, tallied, batch_answer}
-use Rattle.model.specs.Model.{Model, Bits}
-use Rattle.model.specs.ModelStep.{admitting, admitting_block}
+use Rattle.model.specs.Model.{Model}
+use Rattle.model.specs.ModelStep.{admitting_block}
 use Rattle.model.specs.OnePass.{containers_came, policies_came, entries_placed, one_pass, AdmittedOnce}
 use Rattle.model.specs.Refusals.{batch_checks}
 use Rattle.model.specs.Registry.{Registry, BitsStand}
-use Rattle.model.specs.RegistryStep.{admit_block}
 use Rattle.model.specs.Settled.{settled}
 use Rattle.model.proofs.Batch.{pairs-back, numbers-last, tallied-last}
 use Rattle.model.proofs.OnePass.{admitted-once, placed-stand}
-use Rattle.formed.specs.Registry.{model_in, bits_in, registry_in, image, EntriesFormed, well_formed}
+use Rattle.formed.specs.Registry.{model_in, bits_in, registry_in, image, well_formed}
 use Rattle.formed.proofs.Apart.{formed-apart}
 use Rattle.formed.proofs.Formed.{formed-memory, formed-entries}
 use Rattle.formed.proofs.StoredLaws.{Fit}
 use Rattle.steps.specs.MemoryStep.{memory_step}
 use Rattle.steps.proofs.Outcomes.{batch-admits}
-use Rattle.answers.specs.declared.Admitted.{Admitted}
 use Rattle.answers.specs.Answers.{admitted_answer}
 use Rattle.answers.proofs.AnswerLaws.{promised-refused}
-use Rattle.batch_blocks.specs.Blocks.{block_placed, FreeFrom}
+use Rattle.batch_blocks.specs.Blocks.{block_placed}
 use Rattle.batch_blocks.proofs.Left.{left-formed, left-model, left-bits}
 use Rattle.batch_blocks.proofs.Cursors.{placed-free-from, free-from-none}
 use Rattle.batches.specs.declared.Progress.{Progress}

@@ -1,5 +1,5 @@
 -- Zeros: they add nothing to the weighted sum, and a search for other bytes may end where only zeros are left.
-use mathlib.Core.Path.{◌≡◌, refl, sym, ap, ◌∙◌}
+use mathlib.Core.Path.{◌≡◌, sym, ap, ◌∙◌}
 use mathlib.Core.List.{List}
 use Prim.Native.Nat.{ℕ, zero, suc, ◌+◌, ◌-◌, ◌*◌, ◌≤◌, ◌<◌, ◌%◌}
 use native.Mathlib.Nat.{le_refl, add-zero, add-suc, zero-mul}

@@ -14,7 +14,7 @@ use Rattle.layouts.specs.declared.Body.{Body}
 use Rattle.block.specs.Bytes.{byte_at}
 use Rattle.block.specs.Fault.{unless, or_else, first_in}
 use Rattle.block.specs.Refusal.{Check, check, refuse, first_refusal}
-use Rattle.block.specs.Reader.{Run, Range, within, range_fault, order_fault, zero_fault, range_faults, order_faults, unused_fault, container_layout, policy_layout}
+use Rattle.block.specs.Reader.{Run, Range, within, range_fault, order_fault, range_faults, order_faults, unused_fault, container_layout, policy_layout}
 use Rattle.layouts.specs.Steps.{runs_of, unused_of, body_checks, layout_checks}
 use Rattle.block.proofs.Checks.{unless-none, or_else-none, within-bounds}
 use Rattle.block_bytes.specs.Used.{UsedEnd}

@@ -9,7 +9,7 @@ use lib.Dec.{eqb}
 use lib.Seq.{get_or-set_same}
 use borrow.Author.Tests.{not-true}
 use Rattle.bitrow.specs.Set.{has_some}
-use Rattle.block.specs.Entry.{Policy, policy}
+use Rattle.block.specs.Entry.{Policy}
 use Rattle.block.specs.Written.{direction_number}
 use Rattle.model.specs.Table.{on, at, stands}
 use Rattle.model.specs.Rules.{selects}

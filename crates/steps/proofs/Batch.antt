@@ -4,7 +4,7 @@ use mathlib.Core.Bool.{true}
 use mathlib.Core.List.{List, [], ◌∷◌}
 use Prim.Native.Nat.{ℕ}
 use Rattle.block.specs.Cut.{blocks_of}
-use Rattle.model.specs.Calls.{change, admit, Answer, run}
+use Rattle.model.specs.Calls.{change, admit, run}
 use Rattle.model.specs.Batch.{batch_outcome}
 use Rattle.model.specs.Registry.{Registry}
 use Rattle.model.specs.RegistryStep.{admit_block}

@@ -1,13 +1,9 @@
 -- The search for a free slot decides: 12, or the container stands at the slot that it found.
-use mathlib.Core.Path.{◌≡◌, sym, ◌∙◌}
-use mathlib.Core.Option.{some}
+use mathlib.Core.Path.{sym, ◌∙◌}
 use native.Mathlib.Omega.{arith}
-use Rattle.model.specs.Table.{lowest_free}
-use Rattle.formed.specs.Registry.{model_in}
 use Rattle.steps.proofs.Outcomes.{container-slot-below}
 use Rattle.answers.proofs.AdmissionLaws.{no-container-slot, container-slot-of}
 use Rattle.batch_blocks.proofs.Outcomes.{container-refused, container-came}
-use borrow.Author.Rules.{rules}
 use Rattle.batch_blocks.proofs.place_container_of.Goals as goal
 
 pub returns-in_default : goal.returns-in_default

@@ -3,8 +3,6 @@ use borrow.Author.Rules.{rules}
 use native.Mathlib.Omega.{arith}
 use mathlib.Core.Path.{◌≡◌, refl, sym, ◌∙◌}
 use mathlib.Core.Bool.{true}
-use mathlib.Core.List.{List}
-use Prim.Native.Nat.{ℕ, ◌*◌, ◌/◌, ◌%◌}
 use lib.ListN.{length}
 use Rattle.block.specs.declared.Tested.TheVariants.{Passed}
 use Rattle.block.specs.Refusal.{first_refusal}

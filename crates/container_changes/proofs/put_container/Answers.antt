@@ -1,7 +1,6 @@
 -- The slot's words make the image of a registry with the container, and `refresh` its bits.
 use Rattle.block.proofs.Accepted.{accepted-valid}
 use Rattle.container_changes.proofs.ContainerLaws.{put_entries, put-done}
-use borrow.Author.Rules.{rules}
 use Rattle.container_changes.proofs.put_container.Goals as goal
 
 pub refresh-requires : goal.refresh-requires

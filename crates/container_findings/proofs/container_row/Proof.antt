@@ -2,7 +2,6 @@
 use borrow.Author.Rules.{rules}
 use native.Mathlib.Omega.{arith}
 use mathlib.Core.Path.{sym, ◌∙◌}
-use borrow.Author.Tests.{not-true, not-false}
 use Rattle.bitrow.proofs.Sets.{point}
 use Rattle.container_findings.specs.Rows.{AtContainer}
 use Rattle.container_findings.proofs.ContainerWords.{at-container}

@@ -1,5 +1,4 @@
 -- The three parts of the file are put one behind another.
-use borrow.Author.Rules.{rules}
 use Rattle.files.proofs.FileLaws.{settings-room, containers-room, policies-room, file-put}
 use Rattle.files.proofs.put_file.Goals as goal
 

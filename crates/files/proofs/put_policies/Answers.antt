@@ -1,11 +1,8 @@
 -- Each turn puts the block of one slot, or none where the slot is free.
-use Prim.Native.Nat.{◌+◌, ◌-◌, ◌≤◌}
+use Prim.Native.Nat.{◌-◌}
 use native.Mathlib.Omega.{arith}
-use lib.ListN.{length}
 use borrow.Author.Rules.{rules}
-use Rattle.formed.specs.Registry.{model_in}
-use Rattle.files.specs.Tables.{policy_block}
-use Rattle.files.proofs.TableLaws.{TablePut, begins, size, skips, room, appends, ends}
+use Rattle.files.proofs.TableLaws.{begins, skips, room, appends, ends}
 use Rattle.files.proofs.FileLaws.{free-policy, taken-policy}
 use Rattle.files.proofs.put_policies.Goals as goal
 

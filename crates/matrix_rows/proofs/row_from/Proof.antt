@@ -1,7 +1,6 @@
 -- A free slot has an empty row; else the row is read from what was gathered.
 use borrow.Author.Rules.{rules}
 use mathlib.Core.Path.{sym, ap₂, ◌∙◌}
-use borrow.Author.Tests.{not-true, not-false}
 use Rattle.bitrow.specs.Set.{join}
 use Rattle.bitrow.proofs.Sets.{point}
 use Rattle.matrix_rows.proofs.RowLaws.{free-row, gathered-row}

@@ -3,7 +3,6 @@ use borrow.Author.Rules.{rules}
 use native.Mathlib.Omega.{arith}
 use mathlib.Core.Path.{refl, sym, ap, ap₂, ◌∙◌}
 use mathlib.Core.Bool.{◌&&◌}
-use borrow.Author.Tests.{not-true, not-false}
 use Rattle.bitrow.specs.Bit.{bit_at}
 use Rattle.bitrow.specs.Set.{has_some}
 use Rattle.bitrow.proofs.Sets.{point}

@@ -1,7 +1,6 @@
 -- What is told without the sets is told by the definitions: of different directions there is neither, and no conflict at or below a.
 use mathlib.Core.Path.{sym, ◌∙◌}
 use borrow.Author.Rules.{rules}
-use borrow.Author.Tests.{not-true}
 use Rattle.policy_pairs.proofs.ComparisonLaws.{comparison-5, comparison-6, comparison-apart, comparison-below}
 use Rattle.policy_pairs.proofs.compare.Statement.{statement}
 use Rattle.policy_pairs.proofs.compare.Tie as tie

@@ -1,6 +1,5 @@
 -- The subset of connections, told by each of the two sets; most pairs differ in the first.
 use borrow.Author.Rules.{rules}
-use borrow.Author.Tests.{not-true, not-false}
 use mathlib.Core.Path.{sym, ◌∙◌}
 use Rattle.policy_pairs.proofs.CodeTests.{shadow-test, shadow-apart}
 use Rattle.policy_pairs.proofs.shadow_at.Statement.{statement}

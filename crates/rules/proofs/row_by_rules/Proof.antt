@@ -1,7 +1,6 @@
 -- A line is the meet of what both directions let, where a stands, and empty where it does not.
 use mathlib.Core.Path.{sym, ◌∙◌}
 use borrow.Author.Rules.{rules}
-use borrow.Author.Tests.{not-true, not-false}
 use Rattle.rules.proofs.Unions.{line-meet-these, line-free}
 use Rattle.rules.proofs.row_by_rules.Statement.{statement}
 use Rattle.rules.proofs.row_by_rules.Tie as tie

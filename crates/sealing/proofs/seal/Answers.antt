@@ -1,7 +1,6 @@
 -- Zeros are put up to byte 509 and add nothing: so the sum is that of all before the checksum.
 use native.Mathlib.Omega.{arith}
 use lib.ListN.{length-set}
-use borrow.Author.Rules.{rules}
 use Rattle.sealing.proofs.SealingLaws.{zeroed-none, zeroed-next, zeroed-sealed}
 use Rattle.sealing.proofs.seal.Goals as goal
 

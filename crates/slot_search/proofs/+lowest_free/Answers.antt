@@ -1,6 +1,6 @@
 -- The search from this slot on: one step of `first_of` for each way.
 use Rattle.std.proofs.Common.{sym, ◌∙◌}
-use Rattle.entries.proofs.FreeSlots.{first-end, first-hit, first-miss, zero-is-free, taken_at, slot-within}
+use Rattle.entries.proofs.FreeSlots.{first-end, first-hit, first-miss, zero-is-free, taken_at}
 use Rattle.slot_search.proofs.+lowest_free.Goals as goal
 
 pub returns-then-slots-slot : goal.returns-then-slots-slot

@@ -2,7 +2,6 @@
 use mathlib.Core.Path.{sym, ap, ◌∙◌}
 use Rattle.entries.specs.Entries.{free_container}
 use Rattle.entries.proofs.FreeSlots.{container-found, containers-full}
-use borrow.Author.Rules.{rules}
 use Rattle.slot_search.proofs.free_container_from.Goals as goal
 
 pub returns-in-At : goal.returns-in-At

@@ -1,6 +1,5 @@
 -- Three named numbers, one behind the other, are the line.
 use native.Mathlib.Omega.{arith}
-use borrow.Author.Rules.{rules}
 use Rattle.text.specs.Lines.{counts_line}
 use Rattle.buffer.proofs.BufferLaws.{puts_then}
 use Rattle.text.proofs.put_counts.Goals as goal

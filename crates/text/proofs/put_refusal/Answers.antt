@@ -1,6 +1,5 @@
 -- A named number and, behind it, the refusal are the line.
 use native.Mathlib.Omega.{arith}
-use borrow.Author.Rules.{rules}
 use Rattle.text.specs.Lines.{refused_line}
 use Rattle.buffer.proofs.BufferLaws.{puts_then}
 use Rattle.digits.proofs.DecimalLaws.{decimal-short}

@@ -2,7 +2,6 @@
 use native.Mathlib.Omega.{arith}
 use mathlib.Core.Path.{◌≡◌, sym, ◌∙◌}
 use Prim.Native.Nat.{◌-◌, ◌<◌}
-use borrow.Author.Tests.{not-true, not-false}
 use Rattle.model.specs.Rules.{matches as matches_part}
 use Rattle.formed.specs.Words.{part_in}
 use Rattle.entries.proofs.PartLabels.{labels_from, matches-part, matches-fail, matches-skip, matches-done}

@@ -1,16 +1,13 @@
 -- Past the test of the memory and of the buffer's length what was put is the answer; refused, the buffer is as it was.
-use mathlib.Core.Path.{◌≡◌, refl, sym, ◌∙◌}
+use mathlib.Core.Path.{refl, sym, ◌∙◌}
 use mathlib.Core.Bool.{true}
-use Prim.Native.Nat.{◌≤◌}
 use lib.ListN.{length}
 use Rattle.model.specs.Calls.{ask, write}
-use Rattle.formed.specs.Registry.{model_in, well_formed}
 use Rattle.formed.proofs.Formed.{formed-entries}
 use Rattle.steps.proofs.Outcomes.{write-short}
 use Rattle.call_tests.proofs.TestLaws.{memory-refused, memory-passed}
 use Rattle.answers.proofs.AnswerLaws.{promised-refused}
 use Rattle.writing.proofs.WritingLaws.{file-written}
-use borrow.Author.Rules.{rules}
 use native.Mathlib.Omega.{arith}
 use Rattle.writing.proofs.write.Goals as goal
 
