@@ -1,4 +1,6 @@
 // The admission of a container or a policy.
+#![tactic(auto)]
+
 ghost use Rattle.std.specs.Prelude.{◌≡◌};
 ghost use Rattle.model.specs.Calls.{change, admit};
 ghost use Rattle.steps.specs.MemoryStep.{memory_step};

@@ -1,4 +1,6 @@
 // What each policy selects and allows, of all policies at once.
+#![tactic(auto)]
+
 ghost use Rattle.std.specs.Prelude.{◌≡◌};
 ghost use Rattle.bitrow.specs.Bit.{bit_at};
 ghost use Rattle.model.specs.Table.{stands};

@@ -1,4 +1,6 @@
 // What containers and policies that came touch of the stored bits, set once, when all of them stand.
+#![tactic(auto)]
+
 ghost use Rattle.std.specs.Prelude.{◌≡◌, true, ◌<◌};
 ghost use Rattle.bitrow.specs.Bit.{bit_at};
 ghost use Rattle.model.specs.Table.{stands};
@@ -13,7 +15,7 @@ ghost use Rattle.arrivals.specs.Anew.{mask_of, set_anew, TouchedBy};
 use matrix_rows::Gathered;
 
 // What is set anew: these rows and columns of the matrix, the sets of these policies, and the bits of these containers in every set.
-#[derive(Drop)]
+#[derive(Clone, Copy)]
 struct Touched {
     rows: [u64; 4],
     columns: [u64; 4],

@@ -1,4 +1,6 @@
 // The audit: every stored bit compared with the rules.
+#![tactic(auto)]
+
 ghost use Rattle.std.specs.Prelude.{◌≡◌};
 ghost use Rattle.model.specs.Registry.{consistent};
 ghost use Rattle.formed.specs.Registry.{registry_in, EntriesFormed};

@@ -1,5 +1,7 @@
 // The step of a batch that takes one block: its entry is placed, and no stored bit changes. Within a batch slots only fill, so the search
 // for a free slot begins where the last one of its table ended.
+#![tactic(auto)]
+
 ghost use Rattle.std.specs.Prelude.{◌≡◌, ◌<◌};
 ghost use Rattle.block.specs.Entry.{container, policy};
 ghost use Rattle.block.specs.Reader.{container_said, policy_said, AcceptedAs};

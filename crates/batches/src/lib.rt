@@ -1,4 +1,6 @@
 // A batch of admissions in one pass: its blocks are placed one after another, then what they touch is set once.
+#![tactic(auto)]
+
 ghost use Rattle.std.specs.Prelude.{◌≡◌, true, ◌+◌, ◌*◌, ◌/◌, ◌%◌, ◌≤◌, ◌<◌, length, take};
 ghost use Rattle.buffer.specs.Buffer.{overwritten};
 ghost use Rattle.block.specs.Cut.{blocks_of};
@@ -18,7 +20,7 @@ use block::{Refusal, Tested, numbers};
 use model::Tally;
 
 // How far a batch has come: what came, and the tally.
-#[derive(Drop)]
+#[derive(Clone, Copy)]
 pub struct Progress {
     pub came: Came,
     pub tally: Tally,

@@ -1,4 +1,6 @@
 // Sets of numbers below 256, as four words of bits: number i is bit i % 64 of word i / 64. Here is what is done with one word.
+#![tactic(auto)]
+
 ghost use Rattle.std.specs.Prelude.{◌≡◌, ◌<◌, ◌%◌};
 ghost use Rattle.std.specs.Int.Count.{count_trailing_zeros};
 ghost use Rattle.bitrow.specs.Bit.{bit};

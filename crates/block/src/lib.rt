@@ -1,5 +1,7 @@
 // The 512-byte format: the types that hold what a test or a reading of a block answers. What a block of settings, a container or a
 // policy says, and which refusal it meets, is defined in specs/.
+#![tactic(auto)]
+
 pub mod numbers;
 
 // Where a test finds fault: nowhere, or at a position of the block.
@@ -32,7 +34,7 @@ pub struct Settings {
 }
 
 // The settings of a refused block are all zero.
-#[derive(Drop)]
+#[derive(Clone, Copy)]
 pub struct SettingsReading {
     pub tested: Tested,
     pub settings: Settings,

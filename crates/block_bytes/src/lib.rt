@@ -1,4 +1,6 @@
 // The bytes of a block: numbers of two bytes and their ranges, the checksum, and whether some are zero.
+#![tactic(auto)]
+
 ghost use Rattle.std.specs.Prelude.{◌≡◌, ◌+◌, ◌≤◌, ◌<◌, eqb, length};
 ghost use Rattle.block.specs.Bytes.{number_at, weighted, checksum};
 ghost use Rattle.block.specs.Fault.{clear};

@@ -1,4 +1,6 @@
 // The tests of the refusals that many calls meet: of the memory, and of a slot that a call names.
+#![tactic(auto)]
+
 ghost use Rattle.std.specs.Prelude.{◌≡◌};
 ghost use Rattle.entries.specs.Entries.{SlotsWithin, free_in};
 ghost use Rattle.call_tests.specs.Tests.{memory_test, slot_test};

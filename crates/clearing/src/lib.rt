@@ -1,4 +1,6 @@
 // What clears: a container that goes, and the registry that an open leaves.
+#![tactic(auto)]
+
 ghost use Rattle.std.specs.Prelude.{◌≡◌, ◌<◌};
 ghost use Rattle.std.proofs.Math.Option.{none};
 ghost use Rattle.block.specs.Reading.{settings_of};

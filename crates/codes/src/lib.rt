@@ -1,4 +1,6 @@
 // The numbers of the C interface: a refusal, yes or no, a finding.
+#![tactic(auto)]
+
 ghost use Rattle.std.specs.Prelude.{◌≡◌};
 ghost use Rattle.model.specs.Findings.{finding_code};
 ghost use Rattle.codes.specs.Codes.{refusal_code, truth_code};

@@ -1,4 +1,6 @@
 // Columns of the rows of bits, written.
+#![tactic(auto)]
+
 ghost use Rattle.std.specs.Prelude.{◌≡◌, ◌%◌, ◌<◌};
 ghost use Rattle.store.specs.Layout.{row_count, Whole, InRows};
 ghost use Rattle.store.specs.Memory.{with_bit, bit_set, column_set};

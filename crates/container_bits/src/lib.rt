@@ -1,4 +1,6 @@
 // One container's bits in the rows: what its admission and its removal store.
+#![tactic(auto)]
+
 ghost use Rattle.std.specs.Prelude.{◌≡◌, ◌<◌};
 ghost use Rattle.store.specs.Layout.{Whole};
 ghost use Rattle.container_bits.specs.ContainerBits.{bits_set};

@@ -1,4 +1,6 @@
 // A container that comes: its words, and its bits by the rules.
+#![tactic(auto)]
+
 ghost use Rattle.std.specs.Prelude.{◌≡◌, ◌<◌};
 ghost use Rattle.std.proofs.Math.Option.{some};
 ghost use Rattle.block.specs.Entry.{container};

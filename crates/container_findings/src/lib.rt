@@ -1,4 +1,6 @@
 // The findings over containers: kinds 1 to 4.
+#![tactic(auto)]
+
 ghost use Rattle.std.specs.Prelude.{◌≡◌, ◌<◌};
 ghost use Rattle.bitrow.specs.Bit.{bit_at};
 ghost use Rattle.bitrow.specs.Set.{meet, part};

@@ -1,4 +1,6 @@
 // The counts: set pairs of the matrix, standing containers, standing policies.
+#![tactic(auto)]
+
 ghost use Rattle.std.specs.Prelude.{◌≡◌, length};
 ghost use Rattle.model.specs.Findings.{containers_of, policies_of, pairs as set_pairs};
 ghost use Rattle.store.specs.Layout.{Whole};

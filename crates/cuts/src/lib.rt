@@ -1,5 +1,7 @@
 // What a step of the report works out without the register: how much of a piece and how many blocks it takes, how many lines it puts,
 // and what the end of the input gives.
+#![tactic(auto)]
+
 ghost use Rattle.std.specs.Prelude.{◌≡◌, ◌+◌, ◌*◌, ◌≤◌, ◌<◌, min, length};
 ghost use Rattle.std.proofs.Math.Seq.{paste};
 ghost use Rattle.sheets.specs.Told.{Tells};

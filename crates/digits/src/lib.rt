@@ -1,4 +1,6 @@
 // Words and numbers, put into a buffer.
+#![tactic(auto)]
+
 ghost use Rattle.std.specs.Prelude.{◌≡◌, ◌+◌, ◌≤◌, ◌<◌, length};
 ghost use Rattle.buffer.specs.Buffer.{Puts};
 ghost use Rattle.digits.specs.Decimal.{decimal, ended};

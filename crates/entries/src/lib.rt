@@ -1,4 +1,6 @@
 // Entries in a memory: definitions and laws, and what the search for a free slot finds.
+#![tactic(auto)]
+
 use model::{ContainerSlot, PolicySlot};
 
 // The lowest free container slot, or that the table is full.

@@ -1,4 +1,6 @@
 // The blocks of settings and of entries, from the words of a memory. Each byte of a block is set, whatever it held.
+#![tactic(auto)]
+
 ghost use Rattle.std.specs.Prelude.{◌≡◌, ◌<◌, length};
 ghost use Rattle.block.specs.Entry.{container, policy};
 ghost use Rattle.block.specs.Written.{label_bytes, block_of, settings_block};

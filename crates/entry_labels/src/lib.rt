@@ -1,4 +1,6 @@
 // Labels of the parts of entries, read from a memory.
+#![tactic(auto)]
+
 ghost use Rattle.std.specs.Prelude.{◌≡◌};
 ghost use Rattle.model.specs.Rules.{carries as carries_label};
 ghost use Rattle.formed.specs.Words.{label_in, part_in};

@@ -1,4 +1,6 @@
 // The tests of the two layouts of admission blocks.
+#![tactic(auto)]
+
 ghost use Rattle.std.specs.Prelude.{◌≡◌, length};
 ghost use Rattle.block.specs.Refusal.{first_refusal};
 ghost use Rattle.block.specs.Reader.{container_layout, policy_layout};

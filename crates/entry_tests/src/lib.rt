@@ -1,4 +1,6 @@
 // The test of the words before the rows: settings, and each slot of a container and of a policy.
+#![tactic(auto)]
+
 ghost use Rattle.std.specs.Prelude.{◌≡◌, ◌<◌};
 ghost use Rattle.block.specs.Written.{valid_settings};
 ghost use Rattle.store.specs.Layout.{Whole};

@@ -1,4 +1,6 @@
 // The searches for the first position at fault.
+#![tactic(auto)]
+
 ghost use Rattle.std.specs.Prelude.{◌≡◌, ◌+◌, ◌*◌, ◌≤◌, ◌<◌, length};
 ghost use Rattle.block.specs.Fault.{unless, or_else};
 ghost use Rattle.block.specs.Refusal.{refuse};

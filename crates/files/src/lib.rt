@@ -1,4 +1,6 @@
 // A registry as a file: the settings block, the standing containers by slot, then the policies by slot.
+#![tactic(auto)]
+
 ghost use Rattle.std.specs.Prelude.{◌≡◌, ◌+◌, ◌≤◌, length};
 ghost use Rattle.buffer.specs.Buffer.{Puts};
 ghost use Rattle.model.specs.File.{file_of};

@@ -1,4 +1,6 @@
 // The findings of one kind at a slot.
+#![tactic(auto)]
+
 ghost use Rattle.std.specs.Prelude.{◌≡◌, true, ◌<◌};
 ghost use Rattle.bitrow.specs.Bit.{bit_at};
 ghost use Rattle.formed.specs.Registry.{well_formed};

@@ -1,4 +1,6 @@
 // The findings after any three numbers, by the entries and the stored bits of a memory: as many as a list holds, or the next one.
+#![tactic(auto)]
+
 ghost use Rattle.std.specs.Prelude.{◌≡◌, true, map, ◌<◌, length};
 ghost use Rattle.buffer.specs.Buffer.{Puts};
 ghost use Rattle.model.specs.Findings.{next_after, walk, moved, finding_code};
@@ -16,14 +18,14 @@ pub struct Cursor {
 }
 
 // The next finding and the cursor moved to it, or none.
-#[derive(Drop)]
+#[derive(Clone, Copy)]
 pub enum Step {
     Found(Finding, Cursor),
     Done,
 }
 
 // How many findings were put, and the cursor moved to the last of them.
-#[derive(Drop)]
+#[derive(Clone, Copy)]
 pub struct Put {
     pub count: usize,
     pub cursor: Cursor,

@@ -1,4 +1,6 @@
 // The entry of an accepted block comes to the lowest free slot of its table, if there is one.
+#![tactic(auto)]
+
 ghost use Rattle.std.specs.Prelude.{◌≡◌};
 ghost use Rattle.block.specs.Entry.{container, policy};
 ghost use Rattle.block.specs.Reader.{container_said, policy_said, AcceptedAs};

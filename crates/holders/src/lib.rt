@@ -1,4 +1,6 @@
 // The policies whose set has a container.
+#![tactic(auto)]
+
 ghost use Rattle.std.specs.Prelude.{◌≡◌, ◌+◌, ◌≤◌, ◌<◌};
 ghost use Rattle.bitrow.specs.Bit.{bit, bit_at};
 ghost use Rattle.sets.specs.Sets.{bits};

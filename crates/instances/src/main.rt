@@ -1,31 +1,33 @@
+#![tactic(auto)]
+
 // The instances of document 01 that the proved table does not hold, and each refusal at least once, run through the calls for C.
 // Writes a line for each: the case's number, the refusal's or 0, and what else the call answered.
 ghost use Rattle.std.specs.Prelude.{◌≤◌, length};
 
-use libc::STDOUT_FILENO;
 use model::Tally;
 use registry_c::CodedBatch;
 use samples::Shape;
+use std::io;
 
-fn line(case: u64, refusal: u64, value: u64) {
-    io::print_decimal(STDOUT_FILENO, case);
-    io::write_all(STDOUT_FILENO, b" ");
-    io::print_decimal(STDOUT_FILENO, refusal);
-    io::write_all(STDOUT_FILENO, b" ");
-    io::print_decimal(STDOUT_FILENO, value);
-    io::write_all(STDOUT_FILENO, b"\n");
+fn line(rt: &impl Print, case: u64, refusal: u64, value: u64) -> io::Result<()> {
+    println!(rt; "{case} {refusal} {value}")
 }
 
 // An answer: the refusal's number is its top byte, and the value is below.
-fn show(case: u64, answer: u64) {
-    line(case, answer / 72057594037927936, answer % 72057594037927936);
+fn show(rt: &impl Print, case: u64, answer: u64) -> io::Result<()> {
+    line(
+        rt,
+        case,
+        answer / 72057594037927936,
+        answer % 72057594037927936,
+    )
 }
 
 // The counts, a line for each.
-fn show_counts(case: u64, answer: u64) {
-    line(case, 0, answer % 65536);
-    line(case, 0, answer / 65536 % 65536);
-    line(case, 0, answer / 4294967296);
+fn show_counts(rt: &impl Print, case: u64, answer: u64) -> io::Result<()> {
+    line(rt, case, 0, answer % 65536)?;
+    line(rt, case, 0, answer / 65536 % 65536)?;
+    line(rt, case, 0, answer / 4294967296)
 }
 
 fn open(memory: &mut [u64], made: Shape) -> u64 {
@@ -157,10 +159,8 @@ fn freed(memory: &mut [u64], case: u64) -> u64 {
 // Admits the block of a shape so many times, with no line.
 fn repeat(memory: &mut [u64], made: Shape, times: u64) {
     let block = samples::sealed(made);
-    let mut left = times;
-    while left > 0 {
+    for _ in 0..times {
         registry_c::bihokura_admit(memory, &block);
-        left -= 1;
     }
 }
 
@@ -268,7 +268,7 @@ fn wide(x: u16) -> u64 {
 }
 
 // Batches of a block: a line for the answer, one for the two numbers in the list, and one for the tally.
-fn show_batch(memory: &mut [u64], case: u64) {
+fn show_batch(rt: &impl Print, memory: &mut [u64], case: u64) -> io::Result<()> {
     let block = samples::sealed(batch_case(case));
     let mut numbers = [9u16; 2];
     let done = batch_of(
@@ -278,10 +278,10 @@ fn show_batch(memory: &mut [u64], case: u64) {
         &mut numbers,
         batch_numbers(case),
     );
-    show(case, done.number);
-    line(case, wide(numbers[0]), wide(numbers[1]));
+    show(rt, case, done.number)?;
+    line(rt, case, wide(numbers[0]), wide(numbers[1]))?;
     let tally = done.tally;
-    line(case, tally.taken, tally.refused);
+    line(rt, case, tally.taken, tally.refused)
 }
 
 fn answer(memory: &mut [u64], case: u64) -> u64 {
@@ -302,25 +302,30 @@ fn answer(memory: &mut [u64], case: u64) -> u64 {
     }
 }
 
-fn run(memory: &mut [u64], case: u64) {
+fn run(rt: &impl Print, memory: &mut [u64], case: u64) -> io::Result<()> {
     match case {
-        50 | 60 | 63 | 75 | 78 => show_counts(case, registry_c::bihokura_counts(memory)),
-        65 => repeat(memory, samples::container(2, 1), 255),
-        71 => repeat(memory, samples::policy(1, 0, 1, 2), 127),
-        86 | 87 | 88 | 89 | 90 | 91 => show_batch(memory, case),
-        _ => show(case, answer(memory, case)),
+        50 | 60 | 63 | 75 | 78 => show_counts(rt, case, registry_c::bihokura_counts(memory)),
+        65 => {
+            repeat(memory, samples::container(2, 1), 255);
+            Ok(())
+        }
+        71 => {
+            repeat(memory, samples::policy(1, 0, 1, 2), 127);
+            Ok(())
+        }
+        86 | 87 | 88 | 89 | 90 | 91 => show_batch(rt, memory, case),
+        _ => show(rt, case, answer(memory, case)),
     }
 }
 
-fn run_all(memory: &mut [u64]) {
-    let mut case = 1;
-    while case < 92 {
-        run(memory, case);
-        case += 1;
+fn run_all(rt: &impl Print, memory: &mut [u64]) -> io::Result<()> {
+    for case in 1..92 {
+        run(rt, memory, case)?;
     }
+    Ok(())
 }
 
-fn main() {
+fn main(rt: HostRuntime) -> io::Result<()> {
     let mut memory = [0u64; store::WORDS];
-    run_all(&mut memory);
+    run_all(&rt, &mut memory)
 }

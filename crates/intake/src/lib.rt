@@ -1,4 +1,6 @@
 // How the report takes a block: the first opens, the others are admitted, and a refusal is put at once.
+#![tactic(auto)]
+
 ghost use Rattle.std.specs.Prelude.{◌≡◌, ℕ, ◌+◌, ◌*◌, ◌/◌, ◌%◌, ◌≤◌, ◌<◌, length, replicate};
 ghost use Rattle.buffer.specs.Buffer.{Puts};
 ghost use Rattle.block.specs.Cut.{blocks_of};

@@ -1,4 +1,6 @@
 // Sets joined to rows: for each policy, what it allows to the row of each container that it selects, or the other way round.
+#![tactic(auto)]
+
 ghost use Rattle.std.specs.Prelude.{◌≡◌, ◌≤◌, length};
 ghost use Rattle.bitrow.specs.Bit.{bit, bit_at};
 ghost use Rattle.model.specs.Model.{container_slots};

@@ -1,4 +1,6 @@
 // The containers put into the rows of their labels.
+#![tactic(auto)]
+
 ghost use Rattle.std.specs.Prelude.{◌<◌, eqb};
 ghost use Rattle.model.specs.Rules.{carries};
 ghost use Rattle.formed.specs.Words.{label_in, part_in};

@@ -1,4 +1,6 @@
 // The containers that match a part, by the rows of its labels. Where a label was not found, the candidates that are left are tried.
+#![tactic(auto)]
+
 ghost use Rattle.std.specs.Prelude.{◌≡◌};
 ghost use Rattle.bitrow.specs.Bit.{bit_at};
 ghost use Rattle.formed.specs.Registry.{EntriesFormed};

@@ -1,5 +1,7 @@
 // A table of labels. A label is found by probing; nothing is asked of the table, nor of where probing begins: a label that is not found
 // costs time, never truth.
+#![tactic(auto)]
+
 ghost use Rattle.std.specs.Prelude.{◌≡◌, ◌<◌};
 ghost use Rattle.formed.specs.Registry.{EntriesFormed};
 ghost use Rattle.entries.specs.Entries.{PartWithin};

@@ -1,4 +1,6 @@
 // What every block is tested for, and what an admission block is tested for by its layout.
+#![tactic(auto)]
+
 ghost use Rattle.std.specs.Prelude.{◌≡◌, ◌∷◌, [], ◌≤◌, length};
 ghost use Rattle.block.specs.Refusal.{check, first_refusal};
 ghost use Rattle.block.specs.Reader.{range_faults, order_faults, unused_fault, frame};

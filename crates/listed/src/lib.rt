@@ -1,1 +1,2 @@
 // One list of calls, worked out: definitions and theorems alone.
+#![tactic(auto)]

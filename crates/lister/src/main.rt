@@ -1,52 +1,91 @@
+#![tactic(auto)]
+
 // The pump of the report: reads pieces of standard input, steps, and writes the text that was put, until the state says that the
-// sheet is whole. What the text is, crates `report` and `sheets` prove; what is not proved is that the streams hand on every byte.
-ghost use Rattle.std.specs.Prelude.{◌≡◌, ◌≤◌, length};
+// sheet is whole. What the text is, crates `report` and `sheets` prove; what is not proved is that the system's streams hand on every byte.
+ghost use Rattle.std.specs.Prelude.{◌≡◌, ◌≤◌, ◌<◌, ◌^◌, length, IfSome, OnOk, OnErr};
+ghost use Rattle.std.specs.Io.KnownBytes.{Appends};
 ghost use Rattle.store.specs.Layout.{memory_words};
+ghost use Rattle.sheets.specs.Sheet.{sheet};
+ghost use Rattle.streams.specs.Bytes.{AppendsSome};
 
-// Where the word goes that says that the whole sheet was written.
-const WHOLE_FILENO: i32 = 3;
+use std::fmt;
+use std::io::{self, Read, Write};
+use std::process::ExitCode;
+use std::time::Clock;
 
-fn tell_unread() {
-    os::fail(b"lister: standard input cannot be read");
+// How many bytes are read and written at once.
+const PIECE: usize = 65536;
+
+// Why the sheet is not whole.
+#[derive(Clone, Copy)]
+enum Failure {
+    Unread(io::Error),
+    Unwritten(io::Error),
 }
 
-fn tell_unwritten() {
-    os::fail(b"lister: standard output cannot be written");
+impl fmt::Display for Failure {
+    fn fmt<W: fmt::Write>(&self, f: &mut fmt::Formatter<W>) -> fmt::Result {
+        match self {
+            Failure::Unread(e) => write!(f, "standard input cannot be read: {e}"),
+            Failure::Unwritten(e) => write!(f, "standard output cannot be written: {e}"),
+        }
+    }
 }
 
-// Whether the whole sheet was written. Each turn, the state has less ahead.
-fn pump(memory: &mut [u64], block: &mut [u8], bytes: &mut [u8], out: &mut [u8]) -> bool
+// Writes the whole sheet, or says why not. Each turn, the state has less ahead.
+fn pump<R: Read, W: Write>(
+    clock: &impl Clock,
+    reader: &mut R,
+    writer: &mut W,
+    memory: &mut [u64],
+    block: &mut [u8],
+    bytes: &mut [u8],
+    out: &mut [u8],
+) -> Result<(), Failure>
     requires { (length memory.old ≡ memory_words) × (length block.old ≡ 512) × (128 ≤ length out.old) }
+    ensures whole { OnOk result (IfSome (R.remaining reader.old) (λ input. 0 < length bytes.old → length input < 2 ^ 64
+        → Appends (W.contents writer.old) (W.contents writer.new) (sheet input))) }
+    ensures part { OnErr result (IfSome (R.remaining reader.old) (λ input. 0 < length bytes.old → length input < 2 ^ 64
+        → AppendsSome (W.contents writer.old) (W.contents writer.new) (sheet input) (length (sheet input)))) }
 {
     let mut state = report::start();
     let mut input = streams::nothing_read();
     while !report::finished(state) {
-        let next = streams::refill(bytes, input);
-        if next.failed {
-            tell_unread();
-            return false;
+        let next = match streams::refill(clock, reader, bytes, input) {
+            Ok(next) => next,
+            Err(e) => return Err(Failure::Unread(e)),
+        };
+        let piece = &bytes[next.at..next.end];
+        let done = report::step(memory, block, piece, next.ended, out, state);
+        if let Err(e) = streams::write(clock, writer, out, done.put) {
+            return Err(Failure::Unwritten(e));
         }
-        let at = next.at;
-        let end = next.end;
-        let done = report::step(memory, block, &bytes[at..end], next.ended, out, state);
-        if !streams::write(out, done.put) {
-            tell_unwritten();
-            return false;
-        }
-        let left = streams::used(next, done.used);
-        input = left;
-        let after = done.state;
-        state = after;
+        input = streams::used(next, done.used);
+        state = done.state;
     }
-    true
+    Ok(())
 }
 
-fn main() {
+fn main(rt: HostRuntime) -> ExitCode {
     let mut memory = [0u64; store::WORDS];
     let mut block = [0u8; 512];
-    let mut bytes = io::large_buffer();
-    let mut out = io::large_buffer();
-    if pump(&mut memory, &mut block, &mut bytes, &mut out) {
-        io::write_all(WHOLE_FILENO, b"whole\n");
+    let mut bytes = [0u8; PIECE];
+    let mut out = [0u8; PIECE];
+    let mut input = rt.stdin();
+    let mut output = rt.stdout();
+    match pump(
+        &rt,
+        &mut input,
+        &mut output,
+        &mut memory,
+        &mut block,
+        &mut bytes,
+        &mut out,
+    ) {
+        Ok(()) => ExitCode::SUCCESS,
+        Err(failure) => {
+            let _ = eprintln!(rt; "lister: {failure}");
+            ExitCode::FAILURE
+        }
     }
 }

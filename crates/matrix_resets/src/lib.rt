@@ -1,4 +1,6 @@
 // Bits of the matrix set by the rules from the entries: those of some rows and columns.
+#![tactic(auto)]
+
 ghost use Rattle.std.specs.Prelude.{◌≡◌, ◌<◌};
 ghost use Rattle.bitrow.specs.Bit.{bit_at};
 ghost use Rattle.model.specs.Table.{stands};

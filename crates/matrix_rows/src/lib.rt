@@ -1,4 +1,6 @@
 // Rows of the matrix, many at once: from what was gathered policy by policy.
+#![tactic(auto)]
+
 ghost use Rattle.std.specs.Prelude.{◌≡◌, ◌<◌};
 ghost use Rattle.bitrow.specs.Bit.{bit_at};
 ghost use Rattle.model.specs.Table.{stands};
@@ -9,7 +11,7 @@ ghost use Rattle.matrix_rows.specs.Rows.{meet_if, Gathers, RowFrom};
 
 // What rows of the matrix are read from, beside what was gathered for each container: the standing containers, those that an egress
 // policy selects, and those that an ingress policy selects.
-#[derive(Drop)]
+#[derive(Clone, Copy)]
 pub struct Gathered {
     pub standing: [u64; 4],
     pub bound: [u64; 4],

@@ -1,4 +1,6 @@
 // The test of the rows, and of a whole memory: whether it is well formed.
+#![tactic(auto)]
+
 ghost use Rattle.std.specs.Prelude.{◌≡◌};
 ghost use Rattle.bitrow.specs.Bit.{bit_at};
 ghost use Rattle.store.specs.Layout.{Whole};

@@ -1,4 +1,5 @@
 // The types that the calls share.
+#![tactic(auto)]
 
 // A slot of the table of containers.
 #[derive(Clone, Copy)]

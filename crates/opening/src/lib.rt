@@ -1,4 +1,6 @@
 // The open of a registry.
+#![tactic(auto)]
+
 ghost use Rattle.std.specs.Prelude.{◌≡◌};
 ghost use Rattle.model.specs.Calls.{open_with};
 ghost use Rattle.steps.specs.MemoryStep.{memory_step};

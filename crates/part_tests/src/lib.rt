@@ -1,4 +1,6 @@
 // The test of a part: a header, its labels and the zeros after them.
+#![tactic(auto)]
+
 ghost use Rattle.std.specs.Prelude.{◌≡◌, ◌+◌, ◌≤◌, length};
 ghost use Rattle.formed.specs.Tests.{labels_between, zeros as all_zero, part_ok};
 

@@ -1,4 +1,6 @@
 // Parts: a list of labels carried from a block into the memory.
+#![tactic(auto)]
+
 ghost use Rattle.std.specs.Prelude.{◌≡◌, ◌+◌, ◌*◌, ◌≤◌, length};
 ghost use Rattle.block.specs.Reader.{labels_at};
 ghost use Rattle.store.specs.Memory.{slot_set};

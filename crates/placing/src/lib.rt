@@ -1,4 +1,6 @@
 // What an accepted block says, placed in a slot.
+#![tactic(auto)]
+
 ghost use Rattle.std.specs.Prelude.{◌≡◌, ◌<◌};
 ghost use Rattle.std.proofs.Math.Option.{some};
 ghost use Rattle.block.specs.Entry.{container, policy};

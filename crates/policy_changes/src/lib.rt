@@ -1,4 +1,6 @@
 // A policy put at its slot or taken from it, and the bits of the matrix that it touches.
+#![tactic(auto)]
+
 ghost use Rattle.std.specs.Prelude.{◌≡◌, true, ◌<◌};
 ghost use Rattle.std.proofs.Math.Option.{none, some};
 ghost use Rattle.bitrow.specs.Bit.{bit_at};
@@ -13,7 +15,7 @@ ghost use Rattle.policy_changes.specs.Region.{Touches};
 use model::PolicySlot;
 
 // Bits of the matrix: those in these rows and columns.
-#[derive(Drop)]
+#[derive(Clone, Copy)]
 pub struct Region {
     pub rows: [u64; 4],
     pub columns: [u64; 4],

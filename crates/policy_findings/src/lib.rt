@@ -1,4 +1,6 @@
 // The findings over policies: kinds 5 to 7.
+#![tactic(auto)]
+
 ghost use Rattle.std.specs.Prelude.{◌≡◌, true, ◌<◌, ◌≤◌};
 ghost use Rattle.bitrow.specs.Bit.{bit_at};
 ghost use Rattle.bitrow.specs.Set.{meet, has_some};

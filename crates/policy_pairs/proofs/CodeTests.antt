@@ -38,7 +38,7 @@ not-not true = refl
 not-not false = refl
 
 module _ (m who whom : List ℕ) (a b : ℕ) (c : Compared m who whom a) (x y : List ℕ) (ex : bit_at x ≡ (bits_in m).selected b) (ey : bit_at y ≡ (bits_in m).allowed b)
-    {one_way : Bool} (one_way : one_way ≡ model.one_direction (model_in m) a b) where
+    {same : Bool} (one_way : same ≡ model.one_direction (model_in m) a b) where
   own-selected : has_some ((bits_in m).selected a) ≡ true
   own-selected = sym (ap has_some c.selected) ∙ c.selects_some
 
@@ -46,7 +46,7 @@ module _ (m who whom : List ℕ) (a b : ℕ) (c : Compared m who whom a) (x y : 
   own-allowed = sym (ap has_some c.allowed) ∙ c.allows_some
 
   pub shadow-test : {p q r s : Bool} → p ≡ part (bit_at who) (bit_at x) → q ≡ part (bit_at whom) (bit_at y) → r ≡ part (bit_at x) (bit_at who) → s ≡ part (bit_at y) (bit_at whom)
-      → (not (eqb a b) && (one_way && ((p && q) && (not (r && s) || ltb b a)))) ≡ shadow (model_in m) (bits_in m) a b
+      → (not (eqb a b) && (same && ((p && q) && (not (r && s) || ltb b a)))) ≡ shadow (model_in m) (bits_in m) a b
   shadow-test ep eq er es =
       ap₂ (λ w t. not (eqb a b) && (w && t)) one_way
       (ap₂ (λ u v. u && (not v || ltb b a))
@@ -56,10 +56,10 @@ module _ (m who whom : List ℕ) (a b : ℕ) (c : Compared m who whom a) (x y : 
 
   -- a selects someone whom b does not
   pub shadow-apart : {p : Bool} → p ≡ part (bit_at who) (bit_at x) → p ≡ false → false ≡ shadow (model_in m) (bits_in m) a b
-  shadow-apart ep e = sym (rw (and-false one_way) (and-false (not (eqb a b)))) ∙ shadow-test {p = false} (sym e ∙ ep) refl refl refl
+  shadow-apart ep e = sym (rw (and-false same) (and-false (not (eqb a b)))) ∙ shadow-test {p = false} (sym e ∙ ep) refl refl refl
 
   pub conflict-test : {p q r : Bool} → p ≡ not (has_some (meet (bit_at who) (bit_at x))) → q ≡ not (has_some (bit_at y)) → r ≡ not (has_some (meet (bit_at whom) (bit_at y)))
-      → (ltb a b && (one_way && (not p && (not q && r)))) ≡ conflict (model_in m) (bits_in m) a b
+      → (ltb a b && (same && (not p && (not q && r)))) ≡ conflict (model_in m) (bits_in m) a b
   conflict-test ep eq er =
       ap₂ (λ w t. ltb a b && (w && t)) one_way
       (ap₂ ◌&&◌ (ap not (ep ∙ ap₂ (λ s t. not (has_some (meet s t))) c.selected ex) ∙ not-not (has_some (meet ((bits_in m).selected a) ((bits_in m).selected b))))

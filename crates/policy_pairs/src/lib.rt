@@ -1,4 +1,6 @@
 // Two policies compared: shadow and conflict.
+#![tactic(auto)]
+
 ghost use Rattle.std.specs.Prelude.{◌≡◌};
 ghost use Rattle.model.specs.Findings.{one_direction, shadow, conflict};
 ghost use Rattle.formed.specs.Registry.{model_in, bits_in};

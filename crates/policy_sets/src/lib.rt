@@ -1,4 +1,6 @@
 // A policy's two sets: what it selects and allows of the standing containers, by the entries, and both of them stored.
+#![tactic(auto)]
+
 ghost use Rattle.std.specs.Prelude.{◌≡◌, ◌<◌};
 ghost use Rattle.bitrow.specs.Bit.{bit_at};
 ghost use Rattle.model.specs.Table.{stands};

@@ -1,4 +1,6 @@
 // The calls that ask: of a pair, of a container's value, of the counts.
+#![tactic(auto)]
+
 ghost use Rattle.std.specs.Prelude.{◌≡◌};
 ghost use Rattle.model.specs.Calls.{ask, ask_reaches, ask_user, counts};
 ghost use Rattle.steps.specs.MemoryStep.{memory_step};

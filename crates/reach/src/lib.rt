@@ -1,4 +1,6 @@
 // What a row and a column of the matrix are worked out from by the entries of a memory, and a container's row and column.
+#![tactic(auto)]
+
 ghost use Rattle.std.specs.Prelude.{◌≡◌, ◌≤◌, ◌<◌};
 ghost use Rattle.bitrow.specs.Bit.{bit_at};
 ghost use Rattle.block.specs.Reader.{direction_of};
@@ -68,7 +70,7 @@ fn exchanged(sides: Sides, selected: &[[u64; 4]; 128]) -> Sides
 }
 
 // A container's row and column of the matrix.
-#[derive(Drop)]
+#[derive(Clone, Copy)]
 pub struct Cross {
     pub row: [u64; 4],
     pub column: [u64; 4],

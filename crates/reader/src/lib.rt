@@ -1,4 +1,6 @@
 // What a block of settings says, and which refusal a block meets.
+#![tactic(auto)]
+
 mod entry;
 mod settings;
 

@@ -1,4 +1,6 @@
 // The exported calls and what they answer.
+#![tactic(auto)]
+
 ghost use Rattle.std.specs.Prelude.{◌≡◌};
 ghost use Rattle.store.specs.Layout.{memory_words};
 

@@ -42,7 +42,7 @@ pub fn bihokura_admit(memory: &mut [u64], block: &[u8]) -> u64
 }
 
 // The answer to a batch as one number, and the tally after it.
-#[derive(Drop)]
+#[derive(Clone, Copy)]
 pub struct CodedBatch {
     pub number: u64,
     pub tally: Tally,

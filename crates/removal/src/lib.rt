@@ -1,4 +1,6 @@
 // The calls that take an entry away.
+#![tactic(auto)]
+
 ghost use Rattle.std.specs.Prelude.{◌≡◌};
 ghost use Rattle.model.specs.Calls.{change, remove_container, remove_policy};
 ghost use Rattle.steps.specs.MemoryStep.{memory_step};

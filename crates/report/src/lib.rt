@@ -1,5 +1,7 @@
 // The report, apart from reading and writing: a state that is lent pieces of input and a buffer, and puts text. The text of all
 // steps, joined, is the whole sheet, however the input was cut and whatever the buffers hold (sheets/specs/Runs.antt).
+#![tactic(auto)]
+
 ghost use Rattle.std.specs.Prelude.{◌≡◌, false, ◌≤◌, ◌<◌, length};
 ghost use Rattle.sheets.specs.Left.{Does};
 ghost use Rattle.sheets.specs.Pieces.{take_one, take_step};

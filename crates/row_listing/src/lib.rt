@@ -1,4 +1,6 @@
 // The findings of a row, put into a list, each as one number.
+#![tactic(auto)]
+
 ghost use Rattle.std.specs.Prelude.{map, ◌+◌, ◌-◌, ◌≤◌, ◌<◌, length, take};
 ghost use Rattle.bitrow.specs.Bit.{bit, bit_at};
 ghost use Rattle.buffer.specs.Buffer.{Puts};

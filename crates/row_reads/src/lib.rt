@@ -1,4 +1,6 @@
 // What is read of a row: how many numbers it has, and the lowest from a number on.
+#![tactic(auto)]
+
 ghost use Rattle.std.specs.Prelude.{◌≡◌};
 ghost use Rattle.bitrow.specs.Bit.{bit_at};
 ghost use Rattle.bitrow.specs.Set.{size, lowest_from};

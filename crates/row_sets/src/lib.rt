@@ -1,4 +1,6 @@
 // Sets of numbers below 256, made and joined, as rows by value.
+#![tactic(auto)]
+
 ghost use Rattle.std.specs.Prelude.{◌≡◌, ◌<◌, ◌-◌};
 ghost use Rattle.bitrow.specs.Bit.{bit, bit_at};
 ghost use Rattle.bitrow.specs.Set.{nothing, under, at_least, insert, remove, meet, join, less};

@@ -1,4 +1,6 @@
 // What is tested of a row: whether it is empty, part of another, or the same.
+#![tactic(auto)]
+
 ghost use Rattle.std.specs.Prelude.{◌≡◌, not};
 ghost use Rattle.bitrow.specs.Bit.{bit_at};
 ghost use Rattle.bitrow.specs.Set.{has_some, part, equal};

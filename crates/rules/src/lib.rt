@@ -1,4 +1,6 @@
 // A row and a column of the matrix by the written rules, from each policy's two sets.
+#![tactic(auto)]
+
 ghost use Rattle.std.specs.Prelude.{◌≡◌, ◌<◌};
 ghost use Rattle.bitrow.specs.Bit.{bit_at};
 ghost use Rattle.bitrow.specs.Set.{meet};
@@ -6,7 +8,7 @@ ghost use Rattle.sets.specs.Sets.{bits};
 ghost use Rattle.rules.specs.Lets.{union, Picks, sets_let, sets_let_by, line};
 
 // Of some policies, those that pass a test: whether there are any, and the union of their rows.
-#[derive(Drop)]
+#[derive(Clone, Copy)]
 struct Picked {
     any: bool,
     joined: [u64; 4],

@@ -1,4 +1,6 @@
 // Blocks of 512 bytes, made and sealed.
+#![tactic(auto)]
+
 ghost use Rattle.std.specs.Prelude.{◌≡◌, ◌+◌, ◌%◌, ◌≤◌, min, [], ◌∷◌, length, slice_set};
 ghost use Rattle.std.proofs.lemmas.List.Edits.{sets};
 ghost use Rattle.block.specs.Bytes.{checksum};

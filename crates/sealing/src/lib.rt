@@ -1,4 +1,6 @@
 // A block made from its first byte on, the checksum's sum being taken on the way.
+#![tactic(auto)]
+
 ghost use Rattle.std.specs.Prelude.{◌≡◌, ◌+◌, ◌≤◌, take};
 ghost use Rattle.block.specs.Written.{number_bytes, sealed};
 ghost use Rattle.sealing.specs.Sealing.{Summed, Lengthens};

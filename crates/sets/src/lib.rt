@@ -1,4 +1,6 @@
 // A part's candidates by the entries, of one policy and of each.
+#![tactic(auto)]
+
 ghost use Rattle.std.specs.Prelude.{◌≡◌, ◌<◌};
 ghost use Rattle.bitrow.specs.Bit.{bit_at};
 ghost use Rattle.model.specs.Model.{policy_slots};

@@ -1,8 +1,10 @@
 // The report's meaning: the types that its steps hand on. What a step does, what the whole sheet is, and that the text of all steps,
 // joined, is that sheet, is defined in specs/ and proved in proofs/.
+#![tactic(auto)]
+
 use findings::Cursor;
 
-#[derive(Drop)]
+#[derive(Clone, Copy)]
 pub enum State {
     // Blocks come: how many were taken, and how many bytes of the next one the buffer of the started block holds.
     Taking(u64, usize),
@@ -14,14 +16,14 @@ pub enum State {
 }
 
 // The state after some text, and how many bytes of it were put.
-#[derive(Drop)]
+#[derive(Clone, Copy)]
 pub struct Told {
     pub state: State,
     pub put: usize,
 }
 
 // The state after a step, how many bytes of the piece it used, and how many bytes of text it put.
-#[derive(Drop)]
+#[derive(Clone, Copy)]
 pub struct Stepped {
     pub state: State,
     pub used: usize,

@@ -1,4 +1,6 @@
 // The search for a free slot.
+#![tactic(auto)]
+
 ghost use Rattle.std.specs.Prelude.{◌≡◌, ◌-◌};
 ghost use Rattle.bitrow.specs.Set.{first_of};
 ghost use Rattle.model.specs.Table.{lowest_free};

@@ -1,1 +1,2 @@
 // The starred instances of document 01: definitions and theorems alone.
+#![tactic(auto)]

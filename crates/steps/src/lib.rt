@@ -1,1 +1,2 @@
 // What each call does to a memory: definitions and theorems alone.
+#![tactic(auto)]

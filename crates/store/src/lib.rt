@@ -1,4 +1,5 @@
 // The memory's layout. What its words and bits are, and what each write makes of them, is defined in specs/ and proved in proofs/.
+#![tactic(auto)]
 
 // ---- the layout (docs/MEMORY.md): three words of settings, the slots of containers and of policies, the rows of bits
 

@@ -1,134 +1,138 @@
-// Standard input and output of `lister`, read and written on where a call failed only for now.
-ghost use Rattle.std.specs.Prelude.{true, false, ◌≡◌, ◌≤◌, ◌<◌, ◌+◌, length};
-ghost use Rattle.libc.specs.Io.{Moved};
+#![tactic(auto)]
 
-use libc::types::timespec;
-use libc::{STDIN_FILENO, STDOUT_FILENO};
+// The input and the output of `lister`, read and written on where a call failed only for now.
+ghost use Rattle.std.specs.Prelude.{◌≡◌, ◌⊎◌, ◌↔◌, IsTrue, true, false, ◌≤◌, ◌<◌, ◌+◌, length, take, Ok, IsOk, IfOk, OnOk, OnErr};
+ghost use Rattle.std.specs.IoError.{error_kind};
+ghost use Rattle.std.specs.Io.{ReadsAtMost, WritesAtMost};
+ghost use Rattle.std.specs.Io.KnownBytes.{Keeps, Appends, ReadConsumes, WriteAppends};
+ghost use Rattle.streams.specs.Bytes.{to_come, TellsEnd, AppendsSome};
+
+use std::io::{self, Error, ErrorKind, Read, Write};
+use std::thread;
+use std::time::{Clock, Duration};
+
+#[cfg(test)]
+mod tests;
 
 // How often a call that failed for now is made again, with a pause before each.
 const TRIES: u32 = 1000;
 
-// Waits for the time asked, or until a signal comes.
-fn sleep(asked: timespec) {
-    let mut left = asked;
-    libc::nanosleep(&asked, &mut left);
-}
-
 // Waits for ten milliseconds.
-fn pause() {
-    sleep(timespec {
-        tv_sec: 0,
-        tv_nsec: 10000000,
-    });
+fn pause(clock: &impl Clock) {
+    thread::sleep(clock, Duration::from_millis(10));
 }
 
-// Whether the last call failed for now: a signal came, or a descriptor that does not wait has nothing yet, or no room.
-fn failed_for_now() -> bool {
-    let error = os::errno();
-    (error == libc::EINTR) | (error == libc::EAGAIN)
-}
-
-// Reads some bytes of standard input: how many, 0 at the end, below 0 where that failed.
-fn read(bytes: &mut [u8]) -> isize
-    ensures { Moved (length bytes.old) result }
+// Whether a call failed for now: a signal came, or a descriptor that does not wait has nothing yet, or no room.
+fn failed_for_now(error: &Error) -> bool
+    ensures { IsTrue result ↔ ((error_kind error.now ≡ ErrorKind.Interrupted) ⊎ (error_kind error.now ≡ ErrorKind.WouldBlock)) }
 {
-    let mut tries = 0;
-    while tries < TRIES {
-        let got = libc::read(STDIN_FILENO, bytes);
-        if (got >= 0) | !failed_for_now() {
-            return got;
-        }
-        pause();
-        tries += 1;
-    }
-    libc::read(STDIN_FILENO, bytes)
+    let kind = error.kind();
+    kind == ErrorKind::Interrupted || kind == ErrorKind::WouldBlock
 }
 
-// What was read: the bytes from `at` to before `end` are still to be used; whether the input has ended, and whether a read failed.
-#[derive(Drop)]
+// Reads some bytes of the input: how many, 0 at the end.
+fn read<R: Read>(clock: &impl Clock, reader: &mut R, bytes: &mut [u8]) -> io::Result<usize>
+    ensures bound { ReadsAtMost result bytes.new }
+    ensures bytes { ReadConsumes (R.remaining reader.old) (R.remaining reader.new) result bytes.new }
+{
+    for _ in 0..TRIES {
+        match reader.read(bytes) {
+            Err(e) if failed_for_now(&e) => pause(clock),
+            done => return done,
+        }
+    }
+    reader.read(bytes)
+}
+
+// What was read: the bytes from `at` to before `end` are still to be used; and whether the input has ended.
+#[derive(Clone, Copy)]
 pub struct Input {
     pub at: usize,
     pub end: usize,
     pub ended: bool,
-    pub failed: bool,
 }
 
 // The input before the first read.
 pub fn nothing_read() -> Input
-    ensures { (result.at ≡ 0) × (result.end ≡ 0) × (result.ended ≡ false) × (result.failed ≡ false) }
+    ensures { (result.at ≡ 0) × (result.end ≡ 0) × (result.ended ≡ false) }
 {
     Input {
         at: 0,
         end: 0,
         ended: false,
-        failed: false,
     }
 }
 
 // Reads, where all that came was used.
-pub fn refill(bytes: &mut [u8], input: Input) -> Input
+pub fn refill<R: Read>(
+    clock: &impl Clock,
+    reader: &mut R,
+    bytes: &mut [u8],
+    input: Input,
+) -> io::Result<Input>
     requires { (input.at ≤ input.end) × (input.end ≤ length bytes.old) }
-    ensures at_le_end { (result.at ≤ result.end) × (result.end ≤ length bytes.new) × (result.failed ≡ false → result.ended ≡ false → result.at < result.end) }
-    ensures value { (input.at < input.end → result ≡ input) × (input.ended ≡ true → result ≡ input) }
+    ensures within { IfOk result (λ r. (r.at ≤ r.end) × (r.end ≤ length bytes.new)) }
+    ensures fed { IfOk result (λ r. r.ended ≡ false → r.at < r.end) }
+    ensures kept { (input.at < input.end → result ≡ Ok input) × (input.ended ≡ true → result ≡ Ok input) }
+    ensures bytes { IfOk result (λ r. Keeps (to_come bytes.old input (R.remaining reader.old)) (to_come bytes.new r (R.remaining reader.new))) }
+    ensures end { IfOk result (λ r. 0 < length bytes.old → TellsEnd input (R.remaining reader.old) → TellsEnd r (R.remaining reader.new)) }
+    ensures err { OnErr result (Keeps (R.remaining reader.old) (R.remaining reader.new)) }
 {
     if input.at < input.end {
-        return input;
+        return Ok(input);
     }
     if input.ended {
-        return input;
+        return Ok(input);
     }
-    let got = read(bytes);
-    let end = io::count(got, bytes);
-    Input {
+    let end = read(clock, reader, bytes)?;
+    Ok(Input {
         at: 0,
         end,
         ended: end == 0,
-        failed: got < 0,
-    }
+    })
 }
 
 // What is left of the input where n more of its bytes were used.
 pub fn used(input: Input, n: usize) -> Input
     requires { input.at + n ≤ input.end }
-    ensures { (result.at ≡ input.at + n) × (result.end ≡ input.end) × (result.ended ≡ input.ended) × (result.failed ≡ input.failed) }
+    ensures { (result.at ≡ input.at + n) × (result.end ≡ input.end) × (result.ended ≡ input.ended) }
 {
     Input {
         at: input.at + n,
         end: input.end,
         ended: input.ended,
-        failed: input.failed,
     }
 }
 
-// Writes some of the bytes to standard output: how many, 0 where that failed.
-fn write_some(bytes: &[u8]) -> usize
-    ensures { result ≤ length bytes.now }
+// Writes some of the bytes to the output: how many.
+fn write_some<W: Write>(clock: &impl Clock, writer: &mut W, bytes: &[u8]) -> io::Result<usize>
+    ensures bound { WritesAtMost result bytes.now }
+    ensures bytes { WriteAppends (W.contents writer.old) (W.contents writer.new) result bytes.now }
 {
-    let mut tries = 0;
-    while tries < TRIES {
-        let put = io::count(libc::write(STDOUT_FILENO, bytes), bytes);
-        if (put > 0) | !failed_for_now() {
-            return put;
+    for _ in 0..TRIES {
+        match writer.write(bytes) {
+            Err(e) if failed_for_now(&e) => pause(clock),
+            done => return done,
         }
-        pause();
-        tries += 1;
     }
-    io::count(libc::write(STDOUT_FILENO, bytes), bytes)
+    writer.write(bytes)
 }
 
-// Writes the bytes before `end` to standard output, a short write written on; whether all were written. The C library's contracts say
-// nothing of what is shown: all that follows is that writing nothing does not fail.
-pub fn write(out: &[u8], end: usize) -> bool
+// Writes the bytes before `end` to the output, a short write written on. Where that fails, some of them were written.
+#[tactic(auto, using(crate::proofs::Bytes::ends_before, crate::proofs::Bytes::written_on))]
+pub fn write<W: Write>(clock: &impl Clock, writer: &mut W, out: &[u8], end: usize) -> io::Result<()>
     requires { end ≤ length out.now }
-    ensures { end ≡ 0 → result ≡ true }
+    ensures none { end ≡ 0 → IsOk result }
+    ensures all { OnOk result (Appends (W.contents writer.old) (W.contents writer.new) (take end out.now)) }
+    ensures part { OnErr result (AppendsSome (W.contents writer.old) (W.contents writer.new) out.now end) }
 {
     let mut at = 0;
     while at < end {
-        let put = write_some(&out[at..end]);
+        let put = write_some(clock, writer, &out[at..end])?;
         if put == 0 {
-            return false;
+            return Err(Error::from(ErrorKind::WriteZero));
         }
         at += put;
     }
-    true
+    Ok(())
 }

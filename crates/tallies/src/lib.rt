@@ -1,4 +1,6 @@
 // The tally of a caller's batches, by value.
+#![tactic(auto)]
+
 ghost use Rattle.std.specs.Prelude.{◌≡◌};
 ghost use Rattle.model.specs.Batch.{one_more, tallied_one};
 

@@ -1,4 +1,6 @@
 // Lines of text, put into a buffer.
+#![tactic(auto)]
+
 ghost use Rattle.std.specs.Prelude.{◌+◌, ◌*◌, ◌/◌, ◌≤◌, ◌<◌, length};
 ghost use Rattle.buffer.specs.Buffer.{Puts};
 ghost use Rattle.text.specs.Text.{named};

@@ -1,4 +1,6 @@
 // The trial of a part: which of the candidates carry every label of it.
+#![tactic(auto)]
+
 ghost use Rattle.std.specs.Prelude.{◌≡◌, ◌<◌};
 ghost use Rattle.bitrow.specs.Bit.{bit, bit_at};
 ghost use Rattle.bitrow.specs.Set.{meet, under};

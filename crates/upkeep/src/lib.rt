@@ -1,4 +1,6 @@
 // The calls over every stored bit: all set by the rules, and whether they are.
+#![tactic(auto)]
+
 ghost use Rattle.std.specs.Prelude.{◌≡◌};
 ghost use Rattle.model.specs.Calls.{change, rebuild, ask, audit};
 ghost use Rattle.steps.specs.MemoryStep.{memory_step};

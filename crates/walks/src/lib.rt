@@ -1,4 +1,6 @@
 // The calls that give the findings after a cursor: the next one, or as many as a list holds.
+#![tactic(auto)]
+
 ghost use Rattle.std.specs.Prelude.{◌≡◌, length};
 ghost use Rattle.buffer.specs.Buffer.{overwritten};
 ghost use Rattle.model.specs.Calls.{ask, next_finding, list_findings, written};

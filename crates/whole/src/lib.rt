@@ -1,4 +1,6 @@
 // The whole registry by the rules: a row of the stored bits, and the rebuild that sets every one.
+#![tactic(auto)]
+
 ghost use Rattle.std.specs.Prelude.{◌≡◌, ◌<◌};
 ghost use Rattle.model.specs.Registry.{rebuilt};
 ghost use Rattle.store.specs.Layout.{row_count};

@@ -1,4 +1,6 @@
 // The tests of one word and of one row: a label, and the bits of a row.
+#![tactic(auto)]
+
 ghost use Rattle.std.specs.Prelude.{◌≡◌, ◌<◌};
 ghost use Rattle.bitrow.specs.Bit.{bit_at};
 ghost use Rattle.store.specs.Layout.{row_count, Whole};

@@ -1,4 +1,6 @@
 // The call that puts a registry back into blocks.
+#![tactic(auto)]
+
 ghost use Rattle.std.specs.Prelude.{◌≡◌, length};
 ghost use Rattle.buffer.specs.Buffer.{overwritten};
 ghost use Rattle.model.specs.Calls.{ask, write as write_into, written};

@@ -14,53 +14,39 @@ use borrow.Author.Rules.{rules}
 use Rattle.admission.proofs.admit.Statement.{statement}
 use Rattle.admission.proofs.admit.Tie as tie
 
-returns : tie.Need-returns
-returns c = sym (memory-refused _ _ (sym c.before.before.before.test-memory.ensures ∙ c.before.formed.given.1) _ refl)
+returns : tie.Need-returns-in-Refused
+returns c = sym (memory-refused _ _ (sym c.test_memory-formed.ensures ∙ c.in-Refused.is) _ refl)
 
-formed : (c : tie.After-enum-told) → well_formed c.before.before.before.before.before.before.args.memory.now ≡ true
-formed c = memory-passed _ (sym c.before.before.test-memory.ensures ∙ c.enum_told.given.1)
+formed : (c : tie.In_default) → well_formed c.args.memory.now ≡ true
+formed c = memory-passed _ (sym c.test_memory-formed.ensures ∙ c.in_default.is)
 
--- the block is tested under the settings that the memory says
-tested : (c : tie.After-test-entry) → let s = c.before.before.before.before.before.before.before.before.before.before in
-    c.test-entry.result ≡ first_refusal (entry_checks (model_in s.args.memory.now).settings s.args.block.now)
-tested c = tested-here _ _ c.test-entry.ensures
-
-returns-2 : tie.Need-returns-2
+returns-2 : tie.Need-returns-in-Refused-tested
 returns-2 c =
-    let t = c.before.before.before in
-    sym (admit-refused-by _ _ _ (formed t.before.before.before.before) (sym (tested t) ∙ c.before.tested.given.1))
+    sym (admit-refused-by _ _ _ (memory-passed _ (sym c.test_memory-formed.ensures ∙ c.in_default.is)) (sym (tested-here _ _ c.test_entry-tested.ensures) ∙ c.in-Refused-tested.is))
 
--- past both tests
-module _ (c : tie.After-enum-told2) where
-  abbrev begun : tie.Start
-  begun = c.before.before.before.before.before.before.before.before.before.before.before.before
+-- past both tests; the block is tested under the settings that the memory says
+well : (c : tie.In_default-tested) → well_formed c.args.memory.now ≡ true
+well c = memory-passed _ (sym c.test_memory-formed.ensures ∙ c.in_default.is)
 
-  well : well_formed begun.args.memory.now ≡ true
-  well = formed c.before.before.before.before.before.before
+passed : (c : tie.In_default-tested) → first_refusal (entry_checks (model_in c.args.memory.now).settings c.args.block.now) ≡ Passed
+passed c = sym (tested-here _ _ c.test_entry-tested.ensures) ∙ c.in_default-tested.is
 
-  passed : first_refusal (entry_checks (model_in begun.args.memory.now).settings begun.args.block.now) ≡ Passed
-  passed = sym (tested c.before.before) ∙ c.enum-told2.given.1
-
-shared-slice-read-if1 : tie.Need-shared-slice-read-if1
+shared-slice-read-if1 : tie.Need-bounds-block-0
 shared-slice-read-if1 c = let n = passed-long _ _ (passed c.before) in search rules
 
-admit-container-requires : tie.Need-admit-container-requires
-admit-container-requires c κs = let t = c.before.before.before in (formed-entries _ (well t), accepted-container _ _ (passed t) c.before.if1.true)
+admit-container-requires : tie.Need-admit_container-requires
+admit-container-requires c κs = (formed-entries _ (well c.before.before.before), accepted-container _ _ (passed c.before.before.before) c.if-block-eq67.true)
 
-returns-3 : tie.Need-returns-3
+returns-3 : tie.Need-returns-then-block-eq67
 returns-3 c =
-    let a = c.before.before in
-    let t = a.before.before.before.before in
-    a.admit-container.ensures ∙ sym (admit-container _ (well t) _ _ (accepted-container _ _ (passed t) a.before.before.if1.true))
+    c.admit_container.ensures ∙ sym (admit-container _ (well c.before.before.before.before.before.before) _ _ (accepted-container _ _ (passed c.before.before.before.before.before.before) c.if-block-eq67.true))
 
-admit-policy-requires : tie.Need-admit-policy-requires
-admit-policy-requires c κs = let t = c.before.before.before in (formed-entries _ (well t), accepted-policy _ _ (passed t) c.before.if1.false)
+admit-policy-requires : tie.Need-admit_policy-requires
+admit-policy-requires c κs = (formed-entries _ (well c.before.before.before), accepted-policy _ _ (passed c.before.before.before) c.if-block-eq67.false)
 
-returns-4 : tie.Need-returns-4
+returns-4 : tie.Need-returns
 returns-4 c =
-    let a = c.before.before in
-    let t = a.before.before.before.before in
-    a.admit-policy.ensures ∙ sym (admit-policy _ (well t) _ _ (accepted-policy _ _ (passed t) a.before.before.if1.false))
+    c.admit_policy.ensures ∙ sym (admit-policy _ (well c.before.before.before.before.before.before) _ _ (accepted-policy _ _ (passed c.before.before.before.before.before.before) c.if-block-eq67.false))
 
 pub admit_spec : {M : Type 1} → statement M
 admit_spec =

@@ -12,42 +12,34 @@ use Rattle.arrivals.proofs.Rows.{Setting, setting-none, setting-next, setting-sk
 use Rattle.arrivals.proofs.set_touched.Statement.{statement}
 use Rattle.arrivals.proofs.set_touched.Tie as tie
 
-abbrev invariant-loop : tie.invariant-loop
+abbrev invariant-loop : tie.invariant-loop-r
 invariant-loop memory₀ touched gathered selected allowed outs backs r₀ memory r = Setting (registry_in memory₀) touched memory r
 
-abbrev decreases-loop : tie.decreases-loop
+abbrev decreases-loop : tie.decreases-loop-r
 decreases-loop memory₀ touched gathered selected allowed outs backs r₀ memory r = row_count - r
 
-loop-holds : tie.Need-loop-init invariant-loop decreases-loop
-loop-holds c = setting-none (entries-hold _ c.before.requires.0) (λ k. omega (arith, c.slice-known.given k))
+loop-holds : tie.Need-loop-r-init invariant-loop decreases-loop
+loop-holds c = setting-none (entries-hold _ c.requires.0) (λ k. omega (arith, c.slice_known-1.given k))
 
-reset-row-requires : tie.Need-reset-row-requires invariant-loop decreases-loop
+reset-row-requires : tie.Need-reset_row-requires invariant-loop decreases-loop
 reset-row-requires c κs =
-    let t = c.before.before.before.before.before in
-    (t.before.loop.invariant.filled.held.whole, omega (arith, t.loop-test.true))
+    (c.loop-r.invariant.filled.held.whole, omega (arith, c.loop-r-test.true))
 
-loop-again : tie.Need-loop-preserved invariant-loop decreases-loop
+loop-again : tie.Need-loop-r-preserved-then-not-is_empty invariant-loop decreases-loop
 unfolding registry_in
 loop-again c =
-    let w = c.before.before in
-    let f = w.before.before in
-    let k = f.before.before.before in
-    let t = k.before in
-    let l = t.before in
-    setting-next l.loop.invariant (omega (arith, t.loop-test.true)) k.mask-of.ensures (f.row-of-bits.ensures.is l.before.before.requires.1 refl) w.reset-row.ensures
-    (λ i. omega (arith, c.slice-known2.given i))
+    setting-next c.loop-r.invariant (omega (arith, c.loop-r-test.true)) c.mask_of-mask.ensures (c.row_of_bits-ruled.ensures.is c.requires.1 refl) c.reset_row.ensures
+    (λ i. omega (arith, c.slice_known-then-not-is_empty-1.given i))
 
-loop-again-2 : tie.Need-loop-preserved-2 invariant-loop decreases-loop
+loop-again-2 : tie.Need-loop-r-preserved invariant-loop decreases-loop
 loop-again-2 c =
-    let k = c.before.before in
-    let t = k.before in
-    setting-skip t.before.loop.invariant (omega (arith, t.loop-test.true)) k.mask-of.ensures (not-true _ (said-yes c.before.is-empty.ensures c.if1.false))
+    setting-skip c.loop-r.invariant (omega (arith, c.loop-r-test.true)) c.mask_of-mask.ensures (not-true _ (said-yes c.is_empty.ensures c.if-not-is_empty.false))
 
-same_length : tie.Need-same-length invariant-loop decreases-loop
-same_length c = let h = c.before.loop.invariant.filled.held.whole in let n = formed-whole _ c.before.before.before.requires.0 in search rules
+same_length : tie.Need-shape_of-memory invariant-loop decreases-loop
+same_length c = let h = c.loop-r.invariant.filled.held.whole in let n = formed-whole _ c.requires.0 in search rules
 
 returns : tie.Need-returns invariant-loop decreases-loop
-returns c = setting-all _ _ c.before.loop.invariant c.loop-test.false
+returns c = setting-all _ _ c.loop-r.invariant c.loop-r-test.false
 
 pub set_touched_spec : {M : Type 1} → statement M
 set_touched_spec =

@@ -11,49 +11,28 @@ use Rattle.arrivals.proofs.Came.{anew-settled, came-none}
 use Rattle.arrivals.proofs.settle_came.Statement.{statement}
 use Rattle.arrivals.proofs.settle_came.Tie as tie
 
--- from the standing containers to the function's start
-abbrev begun : tie.After-containers-standing → tie.Start
-begun s = s.before.before.before.before.before.before
-
--- from where all is gathered to the standing containers
-abbrev counted : tie.After-gather → tie.After-containers-standing
-counted g = g.before.before.before.before.before.before
-
--- from where what is touched is found to where all is gathered
-abbrev gathered : tie.After-touched-by → tie.After-gather
-gathered t = t.before.before.before
-
--- from where the rows are to be set to what is touched
-abbrev found : tie.After-backs2 → tie.After-touched-by
-found w = w.before.before.before.before.before
-
-returns : tie.Need-returns
+returns : tie.Need-returns-then-is_empty
 returns c =
-    let e = c.before.before in
-    came-none _ e.before.before.requires _ _ e.either.ensures (row-bounded _ (search rules)) (not-true _ (sym c.before.is-empty.ensures ∙ c.if1.true))
+    came-none _ c.requires _ _ c.either.ensures (row-bounded _ (search rules)) (not-true _ (sym c.is_empty.ensures ∙ c.if-is_empty.true))
 
-containers-standing-requires : tie.Need-containers-standing-requires
-containers-standing-requires c κs = formed-whole _ (formed-entries _ c.before.before.before.before.before.requires)
+containers-standing-requires : tie.Need-containers_standing-standing-requires
+containers-standing-requires c κs = formed-whole _ (formed-entries _ c.requires)
 
-gather-requires : tie.Need-gather-requires
-gather-requires c κs = let s = c.before.before.before.before.before in ((formed-entries _ (begun s).requires, s.containers-standing.ensures), (none-known (empty-rows 128) (empty-rows 128), (empty-rows 256, empty-rows 256)))
+gather-requires : tie.Need-gather-gathered-requires
+gather-requires c κs = ((formed-entries _ c.requires, c.containers_standing-standing.ensures), (none-known (empty-rows 128) (empty-rows 128), (empty-rows 256, empty-rows 256)))
 
-touched-by-requires : tie.Need-touched-by-requires
+touched-by-requires : tie.Need-touched_by-touched-requires
 touched-by-requires c κs =
-    let g = c.before.before in
-    ((formed-entries _ (begun (counted g)).requires, (counted g).containers-standing.ensures), g.gather.ensures.sets.selected)
+    ((formed-entries _ c.requires, c.containers_standing-standing.ensures), c.gather-gathered.ensures.sets.selected)
 
-set-touched-requires : tie.Need-set-touched-requires
+set-touched-requires : tie.Need-set_touched-requires
 set-touched-requires c κs =
-    let g = gathered (found c) in
-    (formed-entries _ (begun (counted g)).requires, rw (counted g).containers-standing.ensures at g.gather.ensures)
+    (formed-entries _ c.requires, rw c.containers_standing-standing.ensures at c.gather-gathered.ensures)
 
-returns-2 : tie.Need-returns-2
+returns-2 : tie.Need-returns
 unfolding registry_in
 returns-2 c =
-    let w = c.before.before in
-    let t = found w.before in
-    w.set-touched.ensures ∙ ap image (anew-settled _ t.touched-by.ensures (formed-memory _ (begun (counted (gathered t))).requires).acceptable.bits)
+    c.set_touched.ensures ∙ ap image (anew-settled _ c.touched_by-touched.ensures (formed-memory _ c.requires).acceptable.bits)
 
 pub settle_came_spec : {M : Type 1} → statement M
 settle_came_spec =

@@ -11,13 +11,10 @@ use Rattle.arrivals.proofs.touched_by.Tie as tie
 returns : tie.Need-returns
 unfolding direction_of
 returns c =
-    let taking = c.before.before in
-    let leaving = taking.before.before in
-    let sides = leaving.before.before.before.before in
-    let selected = sides.before.before.requires.1 in
+    let selected = c.requires.1 in
     record {
-      rows = line-came _ egress _ (policies-length _) selected _ sides.sides-of.ensures.out leaving.before.both.ensures leaving.union-of.ensures c.before.either.ensures;
-      columns = line-came _ ingress _ (policies-length _) selected _ sides.sides-of.ensures.back taking.before.both2.ensures taking.union-of2.ensures c.either2.ensures;
+      rows = line-came _ egress _ (policies-length _) selected _ c.sides_of-sides.ensures.out c.both.ensures c.union_of-leaving.ensures c.either-rows.ensures;
+      columns = line-came _ ingress _ (policies-length _) selected _ c.sides_of-sides.ensures.back c.both-2.ensures c.union_of-taking.ensures c.either-columns.ensures;
       policies = refl;
       containers = refl;
     }

@@ -13,43 +13,40 @@ use borrow.Author.Rules.{rules}
 use Rattle.batch_blocks.proofs.place_block.Statement.{statement}
 use Rattle.batch_blocks.proofs.place_block.Tie as tie
 
-abbrev begun : tie.After-test-entry → tie.Start
+abbrev begun : tie.After-test_entry-tested → tie.Start
 begun c = c.before.before.before.before.before.before
 
 -- the block is tested under the settings that the memory says
-tested : (c : tie.After-test-entry) → c.test-entry.result ≡ first_refusal (entry_checks (model_in (begun c).args.memory.now).settings (begun c).args.block.now)
-tested c = tested-here _ _ c.test-entry.ensures
+tested : (c : tie.After-test_entry-tested) → c.test_entry-tested.result ≡ first_refusal (entry_checks (model_in c.args.memory.now).settings c.args.block.now)
+tested c = tested-here _ _ c.test_entry-tested.ensures
 
-returns : tie.Need-returns
-returns c =
-    let t = c.before.before.before in (
-      sym (block_refused _ _ (begun t).requires.0 (λ i. omega (arith, t.before.slice-known4.given i)) _ (sym (tested t) ∙ c.before.tested.given.1)),
-      omega arith,
-    )
+returns : tie.Need-returns-in-Refused
+returns c = (
+  sym (block_refused _ _ c.requires.0 (λ i. omega (arith, c.slice_known-4-1.given i)) _ (sym (tested c.before) ∙ c.in-Refused.is)),
+  omega arith,
+)
 
-passed : (c : tie.After-enum-told) → let s = begun c.before.before in first_refusal (entry_checks (model_in s.args.memory.now).settings s.args.block.now) ≡ Passed
-passed c = sym (tested c.before.before) ∙ c.enum_told.given.1
+passed : (c : tie.In_default) → let s = begun c.before in first_refusal (entry_checks (model_in s.args.memory.now).settings s.args.block.now) ≡ Passed
+passed c = sym (tested c.before) ∙ c.in_default.is
 
-shared-slice-read-if1 : tie.Need-shared-slice-read-if1
+shared-slice-read-if1 : tie.Need-bounds-block-0
 shared-slice-read-if1 c = let n = passed-long _ _ (passed c.before) in search rules
 
-place-container-of-requires : tie.Need-place-container-of-requires
+place-container-of-requires : tie.Need-place_container_of-requires
 place-container-of-requires c κs =
-    let e = c.before.before.before in
-    let p = (begun e.before.before).requires in
-    ((p.0, p.1), accepted-container _ _ (passed e) c.before.if1.true)
+    let p = c.requires in
+    ((p.0, p.1), accepted-container _ _ (passed c.before.before.before) c.if-block-eq67.true)
 
-returns-2 : tie.Need-returns-2
-returns-2 c = let p = c.before.before.place-container-of in (p.ensures, placed_below _ _ p.result p.ensures)
+returns-2 : tie.Need-returns-then-block-eq67
+returns-2 c = let p = c.place_container_of in (p.ensures, placed_below _ _ p.result p.ensures)
 
-place-policy-of-requires : tie.Need-place-policy-of-requires
+place-policy-of-requires : tie.Need-place_policy_of-requires
 place-policy-of-requires c κs =
-    let e = c.before.before.before in
-    let p = (begun e.before.before).requires in
-    ((p.0, p.2), accepted-policy _ _ (passed e) c.before.if1.false)
+    let p = c.requires in
+    ((p.0, p.2), accepted-policy _ _ (passed c.before.before.before) c.if-block-eq67.false)
 
-returns-3 : tie.Need-returns-3
-returns-3 c = let p = c.before.before.place-policy-of in (p.ensures, placed_below _ _ p.result p.ensures)
+returns-3 : tie.Need-returns
+returns-3 c = let p = c.place_policy_of in (p.ensures, placed_below _ _ p.result p.ensures)
 
 pub place_block_spec : {M : Type 1} → statement M
 place_block_spec =

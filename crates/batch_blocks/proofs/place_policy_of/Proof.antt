@@ -11,26 +11,21 @@ use borrow.Author.Rules.{rules}
 use Rattle.batch_blocks.proofs.place_policy_of.Statement.{statement}
 use Rattle.batch_blocks.proofs.place_policy_of.Tie as tie
 
-returns : tie.Need-returns
+returns : tie.Need-returns-in_default
 returns c =
-    let f = c.before.before in
-    let k = f.before.before.before in
-    let p = k.before.requires in
-    sym (policy-refused _ _ _ p.1 p.0.0 (λ i. omega (arith, k.slice-known.given i)) (no-policy-slot _ (sym f.free-policy-from.ensures ∙ c.enum_told.given.1)))
+    let p = c.requires in
+    sym (policy-refused _ _ _ p.1 p.0.0 (λ i. omega (arith, c.slice_known-1.given i)) (no-policy-slot _ (sym c.free_policy_from-free.ensures ∙ c.in_default.is)))
 
 -- the slot that was found
-slot : (c : tie.After-place-policy-arg) → let f = c.before.before in
-    lowest_free (model_in f.before.before.before.before.before.before.args.memory.now).policies ≡ some f.free.given.0.0.0
-slot c = let f = c.before.before in policy-slot-of _ _ (sym f.before.before.free-policy-from.ensures ∙ f.free.given.1)
+slot : (c : tie.After-place_policy-arg-1) → lowest_free (model_in c.args.memory.now).policies ≡ some c.in-At.slot.0
+slot c = policy-slot-of _ _ (sym c.free_policy_from-free.ensures ∙ c.in-At.is)
 
-place-policy-requires : tie.Need-place-policy-requires
-place-policy-requires c κs = let p = c.before.before.before.before.before.before.before.before.requires in (p.0.0, policy-slot-below _ _ (slot c), p.1)
+place-policy-requires : tie.Need-place_policy-requires
+place-policy-requires c κs = let p = c.requires in (p.0.0, policy-slot-below _ _ (slot c), p.1)
 
-returns-2 : tie.Need-returns-2
+returns-2 : tie.Need-returns
 returns-2 c =
-    let p = c.before.before in
-    let s = p.before.before.before.before.before.before.before.before.before in
-    sym (policy-came _ _ _ s.requires.1 _ _ (slot p.before) p.place-policy.ensures)
+    sym (policy-came _ _ _ c.requires.1 _ _ (slot c.before.before.before) c.place_policy.ensures)
 
 pub place_policy_of_spec : {M : Type 1} → statement M
 place_policy_of_spec =

@@ -18,65 +18,37 @@ use Rattle.batches.proofs.BatchLaws.{placed-formed, promised-answer, promised-li
 use Rattle.batches.proofs.admit_batch.Statement.{statement}
 use Rattle.batches.proofs.admit_batch.Tie as tie
 
-returns : tie.Need-returns
-returns c = batch-turned _ _ _ _ _ _ (memory-refused _ _ (sym c.before.before.before.test-memory.ensures ∙ c.before.formed.given.1) _ refl)
+returns : tie.Need-returns-in-Refused
+returns c = batch-turned _ _ _ _ _ _ (memory-refused _ _ (sym c.test_memory-formed.ensures ∙ c.in-Refused.is) _ refl)
 
-formed : (c : tie.After-enum-told) → well_formed c.before.before.before.before.before.before.before.args.memory.now ≡ true
-formed c = memory-passed _ (sym c.before.before.test-memory.ensures ∙ c.enum_told.given.1)
-
-returns-2 : tie.Need-returns-2
+returns-2 : tie.Need-returns-in-Refused-tested
 returns-2 c =
-    let t = c.before.before.before in
-    batch-turned _ _ _ _ _ _ (batch-refused _ (formed t.before) _ _ _ _ (sym t.test-batch.ensures ∙ c.before.tested.given.1))
+    let w : well_formed c.args.memory.now ≡ true = memory-passed _ (sym c.test_memory-formed.ensures ∙ c.in_default.is) in
+    batch-turned _ _ _ _ _ _ (batch-refused _ w _ _ _ _ (sym c.test_batch-tested.ensures ∙ c.in-Refused-tested.is))
 
--- past both tests
-module _ (c : tie.After-enum-told2) where
-  abbrev begun : tie.Start
-  begun = c.before.before.before.before.before.before.before.before.before.before
-
-  well : well_formed begun.args.memory.now ≡ true
-  well = formed c.before.before.before
-
-  abbrev blocks : List ℕ
-  blocks = begun.args.blocks.now
-
-  abbrev numbers : ℕ
-  numbers = length begun.args.answers.now
-
-  passed : first_refusal (batch_checks blocks numbers) ≡ Passed
-  passed = sym c.before.before.test-batch.ensures ∙ c.enum-told2.given.1
-
-  cut : length blocks % 512 ≡ 0
-  cut = passed-whole blocks numbers passed
-
-  whole : length blocks ≡ 512 * (length blocks / 512)
-  whole = whole-count blocks cut
-
-take-blocks-requires : tie.Need-take-blocks-requires
+take-blocks-requires : tie.Need-take_blocks-done-requires
 take-blocks-requires c κs =
-    let t = c.before.before in
-    (well t, cut t, omega (arith, passed-room (blocks t) (numbers t) (passed t), numbers-needed (blocks t) (cut t)))
+    let w : well_formed c.args.memory.now ≡ true = memory-passed _ (sym c.test_memory-formed.ensures ∙ c.in_default.is) in
+    let p : first_refusal (batch_checks c.args.blocks.now (length c.args.answers.now)) ≡ Passed = sym c.test_batch-tested.ensures ∙ c.in_default-tested.is in
+    let whole = passed-whole c.args.blocks.now (length c.args.answers.now) p in
+    (w, whole, omega (arith, passed-room c.args.blocks.now (length c.args.answers.now) p, numbers-needed c.args.blocks.now whole))
 
--- the blocks are placed
-module _ (c : tie.After-take-blocks) where
-  abbrev told : tie.After-enum-told2
-  told = c.before.before.before
-
-settle-came-requires : tie.Need-settle-came-requires
+settle-came-requires : tie.Need-settle_came-requires
 settle-came-requires c κs =
-    let p = c.before.before.before.before.before.before.before.before in
-    let t = told p in
-    placed-formed _ _ _ _ (whole t) (well t) p.take-blocks.ensures (λ i. omega (arith, c.before.before.before.before.before.before.slice-known3.given i))
+    let w : well_formed c.args.memory.now ≡ true = memory-passed _ (sym c.test_memory-formed.ensures ∙ c.in_default.is) in
+    let p : first_refusal (batch_checks c.args.blocks.now (length c.args.answers.now)) ≡ Passed = sym c.test_batch-tested.ensures ∙ c.in_default-tested.is in
+    placed-formed _ _ _ _ (whole-count _ (passed-whole c.args.blocks.now (length c.args.answers.now) p)) w c.take_blocks-done.ensures (λ i. omega (arith, c.slice_known-3-1.given i))
 
-returns-3 : tie.Need-returns-3
+returns-3 : tie.Need-returns
 returns-3 c =
-    let s = c.before.before.before in
-    let p = c.before.before.before.before.before.before.before.before.before.before.before.before in
-    let t = told p in
-    let g = p.take-blocks.ensures in
-    let e = s.settle-came.ensures in (
-      promised-answer _ _ _ _ (whole t) (well t) g (numbers t) (passed t) e,
-      (promised-list _ _ _ _ (whole t) (well t) g (numbers t) (passed t) e, promised-tally _ _ _ _ (whole t) (well t) g (numbers t) (passed t) e),
+    let w : well_formed c.args.memory.now ≡ true = memory-passed _ (sym c.test_memory-formed.ensures ∙ c.in_default.is) in
+    let p : first_refusal (batch_checks c.args.blocks.now (length c.args.answers.now)) ≡ Passed = sym c.test_batch-tested.ensures ∙ c.in_default-tested.is in
+    let n = length c.args.answers.now in
+    let k = whole-count c.args.blocks.now (passed-whole c.args.blocks.now n p) in
+    let g = c.take_blocks-done.ensures in
+    let e = c.settle_came.ensures in (
+      promised-answer _ _ _ _ k w g n p e,
+      (promised-list _ _ _ _ k w g n p e, promised-tally _ _ _ _ k w g n p e),
     )
 
 pub admit_batch_spec : {M : Type 1} → statement M

@@ -5,11 +5,11 @@ use Rattle.batch_blocks.specs.Blocks.{slot_of}
 use Rattle.batches.proofs.second_number.Statement.{statement}
 use Rattle.batches.proofs.second_number.Tie as tie
 
-cast-result : tie.Need-overflow-cast-result
-cast-result c = let h = ap slot_of c.before.before.answer.given.1 in search rules
+cast-result : tie.Need-overflow_cast-result
+cast-result c = let h = ap slot_of c.in-Container.is in search rules
 
-cast-result-2 : tie.Need-overflow-cast-result-2
-cast-result-2 c = let h = ap slot_of c.before.before.answer2.given.1 in search rules
+cast-result-2 : tie.Need-overflow_cast-result-in-Policy
+cast-result-2 c = let h = ap slot_of c.in-Policy.is in search rules
 
 pub second_number_spec : {M : Type 1} → statement M
 second_number_spec =

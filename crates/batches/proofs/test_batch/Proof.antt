@@ -7,25 +7,23 @@ use Rattle.batches.proofs.Blocks.{numbers-needed}
 use Rattle.batches.proofs.test_batch.Statement.{statement}
 use Rattle.batches.proofs.test_batch.Tie as tie
 
-returns : tie.Need-returns
-returns c = let s = c.before in sym (batch-long s.args.blocks.now s.args.numbers c.if1.true)
+returns : tie.Need-returns-then-length-gt65536
+returns c = sym (batch-long c.args.blocks.now c.args.numbers c.if-length-gt65536.true)
 
-returns-2 : tie.Need-returns-2
-returns-2 c = let s = c.before.before in sym (batch-cut s.args.blocks.now s.args.numbers c.if2.true)
+returns-2 : tie.Need-returns-then-length-ne0
+returns-2 c = sym (batch-cut c.args.blocks.now c.args.numbers c.if-length-ne0.true)
 
-returns-3 : tie.Need-returns-3
+returns-3 : tie.Need-returns-then-numbers-length
 returns-3 c =
-    let s = c.before.before.before in
-    let few = c.before.before.if1.false in
-    let cut = c.before.if2.false in
-    sym (batch-short s.args.blocks.now s.args.numbers few cut (omega (arith, c.if3.true, numbers-needed s.args.blocks.now cut)))
+    let few = c.if-length-gt65536.false in
+    let cut = c.if-length-ne0.false in
+    sym (batch-short c.args.blocks.now c.args.numbers few cut (omega (arith, c.if-numbers-length.true, numbers-needed c.args.blocks.now cut)))
 
-returns-4 : tie.Need-returns-4
+returns-4 : tie.Need-returns
 returns-4 c =
-    let s = c.before.before.before in
-    let few = c.before.before.if1.false in
-    let cut = c.before.if2.false in
-    sym (batch-passes s.args.blocks.now s.args.numbers few cut (omega (arith, c.if3.false, numbers-needed s.args.blocks.now cut)))
+    let few = c.if-length-gt65536.false in
+    let cut = c.if-length-ne0.false in
+    sym (batch-passes c.args.blocks.now c.args.numbers few cut (omega (arith, c.if-numbers-length.false, numbers-needed c.args.blocks.now cut)))
 
 pub test_batch_spec : {M : Type 1} → statement M
 test_batch_spec = tie.close (tie.spec returns returns-2 (λ c. search rules) returns-3 returns-4)

@@ -8,11 +8,11 @@ use borrow.Author.Rules.{rules}
 use Rattle.closing.proofs.tell_counts.Statement.{statement}
 use Rattle.closing.proofs.tell_counts.Tie as tie
 
-returns : tie.Need-returns
-returns c = counts-is c.before.before.counts.ensures (ap counted_answer c.enum_told.given.1) (puts_none (omega arith)) refl
+returns : tie.Need-returns-in-Refused
+returns c = counts-is c.counts-counted.ensures (ap counted_answer c.in-Refused.is) (puts_none (omega arith)) refl
 
-returns-2 : tie.Need-returns-2
-returns-2 c = counts-is c.before.before.before.before.before.before.before.counts.ensures (ap counted_answer c.before.before.before.before.before.counted.given.1) c.before.before.put-counts.ensures.0 refl
+returns-2 : tie.Need-returns-in-Counts
+returns-2 c = counts-is c.counts-counted.ensures (ap counted_answer c.in-Counts.is) c.put_counts-put.ensures.0 refl
 
 pub tell_counts_spec : {M : Type 1} → statement M
 tell_counts_spec =

@@ -9,17 +9,17 @@ use Rattle.closing.proofs.tell_findings.Statement.{statement}
 use Rattle.closing.proofs.tell_findings.Tie as tie
 
 -- as many numbers are lent as lines find room
-lent : (c : tie.After-lines-in) → length (take c.lines-in.result c.before.no-numbers.result) ≡ c.lines-in.result
-lent c = let w = c.before.no-numbers.ensures in let k = c.lines-in.ensures.1.0 in length-take-le _ _ (omega (arith, w, k))
+lent : (c : tie.After-lines_in-lines) → length (take c.lines_in-lines.result c.no_numbers-numbers.result) ≡ c.lines_in-lines.result
+lent c = let w = c.no_numbers-numbers.ensures in let k = c.lines_in-lines.ensures.1.0 in length-take-le _ _ (omega (arith, w, k))
 
-slice-aggregate-tell-findings-by : tie.Need-slice-aggregate-tell-findings-by
+slice-aggregate-tell-findings-by : tie.Need-slice_bounds-tell_findings_by-end
 slice-aggregate-tell-findings-by c = sym (lent c.before)
 
-tell-findings-by-requires : tie.Need-tell-findings-by-requires
-tell-findings-by-requires c κs = let w = lent c.before.before in let k = c.before.before.lines-in.ensures.1.1 in omega (arith, w, k)
+tell-findings-by-requires : tie.Need-tell_findings_by-requires
+tell-findings-by-requires c κs = let w = lent c.before.before in let k = c.lines_in-lines.ensures.1.1 in omega (arith, w, k)
 
 returns : tie.Need-returns
-returns c = let d = c.before.before.before.before.before.before in lists-in _ _ _ _ (lent d ∙ d.lines-in.ensures.0) c.before.before.before.tell-findings-by.ensures
+returns c = lists-in _ _ _ _ (lent c.before.before.before.before.before.before ∙ c.lines_in-lines.ensures.0) c.tell_findings_by.ensures
 
 pub tell_findings_spec : {M : Type 1} → statement M
 tell_findings_spec =

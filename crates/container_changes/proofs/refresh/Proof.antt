@@ -7,13 +7,6 @@ use borrow.Author.Rules.{rules}
 use Rattle.container_changes.proofs.refresh.Statement.{statement}
 use Rattle.container_changes.proofs.refresh.Tie as tie
 
--- from where the container's row and column are known to where all sets are, and to the function's start
-abbrev filled : tie.After-cross_of-cross → tie.After-fill_sets
-filled c = c.before.before.before.before
-
-abbrev begun : tie.After-cross_of-cross → tie.Start
-begun c = (filled c).before.before.before.before.before.before.before
-
 containers-standing-requires : tie.Need-containers_standing-standing-requires
 containers-standing-requires c κs = formed-whole _ c.requires.0
 
@@ -26,19 +19,19 @@ cross-of-requires c κs =
     ((p.0, c.containers_standing-standing.ensures), (p.1, c.fill_sets.ensures))
 
 holding-requires : tie.Need-holding-selecting-requires
-holding-requires c κs = (begun c.before).requires.1
+holding-requires c κs = c.requires.1
 
 holding-requires-2 : tie.Need-holding-allowing-requires
-holding-requires-2 c κs = (begun c.before.before.before).requires.1
+holding-requires-2 c κs = c.requires.1
 
 store-bits-requires : tie.Need-store_bits-requires
-store-bits-requires c κs = let p = (begun c.before.before.before.before.before.before.before).requires in (formed-whole _ p.0, p.1)
+store-bits-requires c κs = let p = c.requires in (formed-whole _ p.0, p.1)
 
 returns : tie.Need-returns
 returns c =
-    let p = (begun c.before.before.before.before.before.before.before.before.before.before).requires in
+    let p = c.requires in
     refresh-done _ p.0 _ p.1
-    (bits-by-rules _ _ c.cross_of-cross.ensures.0 c.cross_of-cross.ensures.1 (filled c.before.before.before.before.before.before.before.before.before.before).fill-sets.ensures c.holding-selecting.ensures c.holding-allowing.ensures)
+    (bits-by-rules _ _ c.cross_of-cross.ensures.0 c.cross_of-cross.ensures.1 c.fill_sets.ensures c.holding-selecting.ensures c.holding-allowing.ensures)
     c.store_bits.ensures (λ i. omega (arith, c.slice_known-2-1.given i))
 
 pub refresh_spec : {M : Type 1} → statement M

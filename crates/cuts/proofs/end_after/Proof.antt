@@ -7,17 +7,17 @@ use borrow.Author.Rules.{rules}
 use Rattle.cuts.proofs.end_after.Statement.{statement}
 use Rattle.cuts.proofs.end_after.Tie as tie
 
-returns : tie.Need-returns
+returns : tie.Need-returns-then-n-gt0
 returns c =
-    let n = c.before.before.args.n in
-    let h = c.if1.true in
+    let n = c.args.n in
+    let h = c.if-n-gt0.true in
     end_later n (λ z. omega (arith, h, z)) (record { text = puts_none (omega arith); state = refl })
 
-returns-2 : tie.Need-returns-2
+returns-2 : tie.Need-returns
 returns-2 c =
-    let n = c.before.before.before.before.before.before.args.n in
-    let h = c.before.before.before.before.if1.false in
-    end-first n (omega (arith, h)) (record { text = c.before.before.put-refusal.ensures.0; state = refl })
+    let n = c.args.n in
+    let h = c.if-n-gt0.false in
+    end-first n (omega (arith, h)) (record { text = c.put_refusal-put.ensures.0; state = refl })
 
 pub end_after_spec : {M : Type 1} → statement M
 end_after_spec =

@@ -11,25 +11,23 @@ use borrow.Author.Rules.{rules}
 use Rattle.free_slots.proofs.admit_container.Statement.{statement}
 use Rattle.free_slots.proofs.admit_container.Tie as tie
 
-free-container-requires : tie.Need-free-container-requires
-free-container-requires c κs = formed-whole _ c.before.before.before.requires.0
+free-container-requires : tie.Need-free_container-free-requires
+free-container-requires c κs = formed-whole _ c.requires.0
 
-returns : tie.Need-returns
-returns c = sym (container-full _ _ (sym c.before.before.free-container.ensures ∙ c.enum_told.given.1))
+returns : tie.Need-returns-in_default
+returns c = sym (container-full _ _ (sym c.free_container-free.ensures ∙ c.in_default.is))
 
 -- the slot that was found
-slot : (c : tie.After-put-container-arg) → let f = c.before.before in
-    lowest_free (model_in f.before.before.before.before.before.before.args.memory.now).containers ≡ some f.free.given.0.0.0
-slot c = let f = c.before.before in container-slot-of _ _ (sym f.before.before.free-container.ensures ∙ f.free.given.1)
+slot : (c : tie.After-put_container-arg-1) → lowest_free (model_in c.args.memory.now).containers ≡ some c.in-At.slot.0
+slot c = container-slot-of _ _ (sym c.free_container-free.ensures ∙ c.in-At.is)
 
-put-container-requires : tie.Need-put-container-requires
+put-container-requires : tie.Need-put_container-requires
 put-container-requires c κs =
-    let s = c.before.before.before.before.before.before.before.before in
     let h = container-slot-below _ _ (slot c) in
-    (s.requires.0, omega (arith, h), s.requires.1)
+    (c.requires.0, omega (arith, h), c.requires.1)
 
-returns-2 : tie.Need-returns-2
-returns-2 c = let p = c.before.before in sym (container-put _ _ _ _ (slot p.before) p.put-container.ensures)
+returns-2 : tie.Need-returns
+returns-2 c = sym (container-put _ _ _ _ (slot c.before.before.before) c.put_container.ensures)
 
 pub admit_container_spec : {M : Type 1} → statement M
 admit_container_spec =

@@ -10,22 +10,21 @@ use borrow.Author.Rules.{rules}
 use Rattle.free_slots.proofs.admit_policy.Statement.{statement}
 use Rattle.free_slots.proofs.admit_policy.Tie as tie
 
-free-policy-requires : tie.Need-free-policy-requires
-free-policy-requires c κs = formed-whole _ c.before.before.before.requires.0
+free-policy-requires : tie.Need-free_policy-free-requires
+free-policy-requires c κs = formed-whole _ c.requires.0
 
-returns : tie.Need-returns
-returns c = sym (policy-full _ _ (sym c.before.before.free-policy.ensures ∙ c.enum_told.given.1))
+returns : tie.Need-returns-in_default
+returns c = sym (policy-full _ _ (sym c.free_policy-free.ensures ∙ c.in_default.is))
 
 -- the slot that was found
-slot : (c : tie.After-put-policy-arg) → let f = c.before.before in
-    lowest_free (model_in f.before.before.before.before.before.before.args.memory.now).policies ≡ some f.free.given.0.0.0
-slot c = let f = c.before.before in policy-slot-of _ _ (sym f.before.before.free-policy.ensures ∙ f.free.given.1)
+slot : (c : tie.After-put_policy-arg-1) → lowest_free (model_in c.args.memory.now).policies ≡ some c.in-At.slot.0
+slot c = policy-slot-of _ _ (sym c.free_policy-free.ensures ∙ c.in-At.is)
 
-put-policy-requires : tie.Need-put-policy-requires
-put-policy-requires c κs = let s = c.before.before.before.before.before.before.before.before in (s.requires.0, policy-slot-below _ _ (slot c), s.requires.1)
+put-policy-requires : tie.Need-put_policy-requires
+put-policy-requires c κs = (c.requires.0, policy-slot-below _ _ (slot c), c.requires.1)
 
-returns-2 : tie.Need-returns-2
-returns-2 c = let p = c.before.before in sym (policy-put _ _ _ _ (slot p.before) p.put-policy.ensures)
+returns-2 : tie.Need-returns
+returns-2 c = sym (policy-put _ _ _ _ (slot c.before.before.before) c.put_policy.ensures)
 
 pub admit_policy_spec : {M : Type 1} → statement M
 admit_policy_spec =

@@ -8,14 +8,14 @@ use borrow.Author.Rules.{rules}
 use Rattle.intake.proofs.admit_as.Statement.{statement}
 use Rattle.intake.proofs.admit_as.Tie as tie
 
-returns : tie.Need-returns
-returns c = admits-is c.before.before.before.before.before.before.before.before.before.admit.ensures (ap admitted_answer c.before.before.before.before.before.answer.given.1) c.before.before.before.before.before.before.before.before.before.before.before.before.before.before.args.n c.before.before.put-refusal.ensures.0 refl
+returns : tie.Need-returns-in-Refused
+returns c = admits-is c.admit-answer.ensures (ap admitted_answer c.in-Refused.is) c.args.n c.put_refusal-put.ensures.0 refl
 
-returns-2 : tie.Need-returns-2
-returns-2 c = admits-is c.before.before.before.before.admit.ensures (ap admitted_answer c.enum_told.given.1) c.before.before.before.before.before.before.before.before.before.args.n (puts_none (omega arith)) refl
+returns-2 : tie.Need-returns-in-Container
+returns-2 c = admits-is c.admit-answer.ensures (ap admitted_answer c.in-Container.is) c.args.n (puts_none (omega arith)) refl
 
-returns-3 : tie.Need-returns-3
-returns-3 c = admits-is c.before.before.before.before.admit.ensures (ap admitted_answer c.enum-told2.given.1) c.before.before.before.before.before.before.before.before.before.args.n (puts_none (omega arith)) refl
+returns-3 : tie.Need-returns-in-Policy
+returns-3 c = admits-is c.admit-answer.ensures (ap admitted_answer c.in-Policy.is) c.args.n (puts_none (omega arith)) refl
 
 pub admit_as_spec : {M : Type 1} → statement M
 admit_as_spec =

@@ -7,20 +7,16 @@ use Rattle.intake.proofs.BatchLaws.{batch-declined, batch-admitted}
 use Rattle.intake.proofs.answer_blocks.Statement.{statement}
 use Rattle.intake.proofs.answer_blocks.Tie as tie
 
-returns : tie.Need-returns
+returns : tie.Need-returns-in-Refused
 returns c =
-    let a = c.before.before.before.before.before.before.before.before.before.before.before in
-    let s = a.before.before.before.before.before.before in
-    let p = s.requires in
-    let q : length a.admit-batch.new.1.1.0 ≡ length s.args.answers.now = search rules in
-    let o = c.before.before.before.before.before.outcome.given in
-    batch-declined _ _ _ _ p.0 p.1 p.2 _ _ _ _ a.admit-batch.ensures.0 o.1 (c.before.before.fill.ensures ∙ ap (λ (j : ℕ). replicate j o.0.0) q)
+    let p = c.requires in
+    let q : length c.admit_batch-batched.new.answers ≡ length c.args.answers.now = search rules in
+    batch-declined _ _ _ _ p.0 p.1 p.2 _ _ _ _ c.admit_batch-batched.ensures.0 c.in-Refused.is (c.fill.ensures ∙ ap (λ (j : ℕ). replicate j c.in-Refused.why) q)
 
-returns-2 : tie.Need-returns-2
+returns-2 : tie.Need-returns-in_default
 returns-2 c =
-    let a = c.before.before.before.before.before.before in
-    let p = a.before.before.before.before.before.before.requires in
-    batch-admitted _ _ _ _ p.0 p.1 p.2 _ _ _ _ a.admit-batch.ensures.0 c.enum_told.given.1 (search rules)
+    let p = c.requires in
+    batch-admitted _ _ _ _ p.0 p.1 p.2 _ _ _ _ c.admit_batch-batched.ensures.0 c.in_default.is (search rules)
 
 pub answer_blocks_spec : {M : Type 1} → statement M
 answer_blocks_spec =

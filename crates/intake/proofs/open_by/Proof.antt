@@ -8,11 +8,11 @@ use borrow.Author.Rules.{rules}
 use Rattle.intake.proofs.open_by.Statement.{statement}
 use Rattle.intake.proofs.open_by.Tie as tie
 
-returns : tie.Need-returns
-returns c = opens-is c.before.before.before.before.before.before.before.before.before.«open».ensures (ap outcome_answer c.before.before.before.before.before.answer.given.1) c.before.before.put-refusal.ensures.0 refl
+returns : tie.Need-returns-in-Refused
+returns c = opens-is c.open-answer.ensures (ap outcome_answer c.in-Refused.is) c.put_refusal-put.ensures.0 refl
 
-returns-2 : tie.Need-returns-2
-returns-2 c = opens-is c.before.before.before.before.«open».ensures (ap outcome_answer c.enum_told.given.1) (puts_none (omega arith)) refl
+returns-2 : tie.Need-returns-in-Done
+returns-2 c = opens-is c.open-answer.ensures (ap outcome_answer c.in-Done.is) (puts_none (omega arith)) refl
 
 pub open_by_spec : {M : Type 1} → statement M
 open_by_spec =

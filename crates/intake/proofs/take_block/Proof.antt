@@ -4,11 +4,11 @@ use borrow.Author.Rules.{rules}
 use Rattle.intake.proofs.take_block.Statement.{statement}
 use Rattle.intake.proofs.take_block.Tie as tie
 
-returns : tie.Need-returns
-returns c = taken-first _ _ _ c.before.before.before.before.before.before.before.if1.true c.before.before.before.before.open_by.ensures
+returns : tie.Need-returns-then-n-eq0
+returns c = taken-first _ _ _ c.if-n-eq0.true c.open_by.ensures
 
-returns-2 : tie.Need-returns-2
-returns-2 c = taken_next _ _ _ c.before.before.before.before.before.before.before.if1.false c.before.before.before.before.admit-as.ensures
+returns-2 : tie.Need-returns
+returns-2 c = taken_next _ _ _ c.if-n-eq0.false c.admit_as.ensures
 
 pub take_block_spec : {M : Type 1} → statement M
 take_block_spec =

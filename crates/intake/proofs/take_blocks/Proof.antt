@@ -9,14 +9,14 @@ use Rattle.intake.proofs.take_blocks.Statement.{statement}
 use Rattle.intake.proofs.take_blocks.Tie as tie
 
 -- as many numbers are lent as the blocks have answers
-lent : (c : tie.After-no-answers) → let k = 2 * (length c.before.before.before.before.args.blocks.now / 512) in length (take k c.no-answers.result) ≡ k
-lent c = let w = c.no-answers.ensures in let p = c.before.before.before.before.requires.0 in length-take-le _ _ (omega (arith, w, p))
+lent : (c : tie.After-no_answers-answers) → let k = 2 * (length c.args.blocks.now / 512) in length (take k c.no_answers-answers.result) ≡ k
+lent c = let w = c.no_answers-answers.ensures in let p = c.requires.0 in length-take-le _ _ (omega (arith, w, p))
 
-slice-aggregate-take-blocks-by : tie.Need-slice-aggregate-take-blocks-by
+slice-aggregate-take-blocks-by : tie.Need-slice_bounds-take_blocks_by-end
 slice-aggregate-take-blocks-by c = sym (lent c.before.before)
 
-take-blocks-by-requires : tie.Need-take-blocks-by-requires
-take-blocks-by-requires c κs = let p = c.before.before.before.before.before.before.before.requires in (p.0, p.1, lent c.before.before.before, search rules, p.3)
+take-blocks-by-requires : tie.Need-take_blocks_by-requires
+take-blocks-by-requires c κs = let p = c.requires in (p.0, p.1, lent c.before.before.before, search rules, p.3)
 
 pub take_blocks_spec : {M : Type 1} → statement M
 take_blocks_spec =

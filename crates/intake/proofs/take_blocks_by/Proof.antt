@@ -7,14 +7,13 @@ use Rattle.buffer.proofs.BufferLaws.{puts-as}
 use Rattle.intake.proofs.take_blocks_by.Statement.{statement}
 use Rattle.intake.proofs.take_blocks_by.Tie as tie
 
-answer-blocks-requires : tie.Need-answer-blocks-requires
+answer-blocks-requires : tie.Need-answer_blocks-requires
 answer-blocks-requires c κs = search rules
 
 returns : tie.Need-returns
 returns c =
-    let a = c.before.before.before.before.before.before.before.before.before in
-    let e = a.answer-blocks.ensures a.before.before.before.before.before.before.before.args.n in
-    (ap (λ (x : List ℕ × List ℕ). x.0) e, puts-as c.before.before.put-refusals.ensures (ap (λ (x : List ℕ × List ℕ). x.1) e))
+    let e = c.answer_blocks.ensures c.args.n in
+    (ap (λ (x : List ℕ × List ℕ). x.0) e, puts-as c.put_refusals.ensures (ap (λ (x : List ℕ × List ℕ). x.1) e))
 
 pub take_blocks_by_spec : {M : Type 1} → statement M
 take_blocks_by_spec =

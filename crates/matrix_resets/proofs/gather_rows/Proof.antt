@@ -6,19 +6,17 @@ use Rattle.sets.proofs.Candidates.{one_known, empty-rows}
 use Rattle.matrix_resets.proofs.gather_rows.Statement.{statement}
 use Rattle.matrix_resets.proofs.gather_rows.Tie as tie
 
-stored-selected-requires : tie.Need-stored-selected-requires
-stored-selected-requires c κs = let p = c.before.requires in (formed-whole _ p.0.0, p.1.0)
+stored-selected-requires : tie.Need-stored_selected-selects-requires
+stored-selected-requires c κs = let p = c.requires in (formed-whole _ p.0.0, p.1.0)
 
-stored-allowed-requires : tie.Need-stored-allowed-requires
-stored-allowed-requires c κs = let p = c.before.before.requires in (formed-whole _ p.0.0, p.1.0)
+stored-allowed-requires : tie.Need-stored_allowed-allows-requires
+stored-allowed-requires c κs = let p = c.requires in (formed-whole _ p.0.0, p.1.0)
 
 gather-requires : tie.Need-gather-requires
 gather-requires c κs =
-    let y = c.before.before.before.before in
-    let x = y.before in
-    let p = x.before.before.requires in (
+    let p = c.requires in (
       p.0,
-      (one_known (empty-rows 128) (empty-rows 128) _ _ p.1.0 (x.stored-selected.ensures ∙ p.1.1.selected) (y.stored-allowed.ensures ∙ p.1.1.allowed), (p.1.2, p.1.3)),
+      (one_known (empty-rows 128) (empty-rows 128) _ _ p.1.0 (c.stored_selected-selects.ensures ∙ p.1.1.selected) (c.stored_allowed-allows.ensures ∙ p.1.1.allowed), (p.1.2, p.1.3)),
     )
 
 returns : tie.Need-returns

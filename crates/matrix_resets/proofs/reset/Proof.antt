@@ -11,47 +11,37 @@ use Rattle.matrix_resets.proofs.RowResets.{Resets, resets_none, resets-take, res
 use Rattle.matrix_resets.proofs.reset.Statement.{statement}
 use Rattle.matrix_resets.proofs.reset.Tie as tie
 
-abbrev invariant-loop : tie.invariant-loop
+abbrev invariant-loop : tie.invariant-loop-a
 invariant-loop memory₀ q rows columns outs backs gathered a₀ memory a = Resets (registry_in memory₀) (bit_at rows) (bit_at columns) memory a
 
-abbrev decreases-loop : tie.decreases-loop
+abbrev decreases-loop : tie.decreases-loop-a
 decreases-loop memory₀ q rows columns outs backs gathered a₀ memory a = 256 - a
 
--- the function's start, from where all is gathered
-abbrev from-gathered : tie.After-gather-rows invariant-loop decreases-loop → tie.Start invariant-loop decreases-loop
-from-gathered c = c.before.before.before.before.before
+gather-rows-requires : tie.Need-gather_rows-gathered-requires invariant-loop decreases-loop
+gather-rows-requires c κs = let p = c.requires in (p.0, (p.1.0, p.1.1, empty-rows 256, empty-rows 256))
 
-gather-rows-requires : tie.Need-gather-rows-requires invariant-loop decreases-loop
-gather-rows-requires c κs = let p = c.before.before.before.before.requires in (p.0, (p.1.0, p.1.1, empty-rows 256, empty-rows 256))
+loop-holds : tie.Need-loop-a-init invariant-loop decreases-loop
+loop-holds c = resets_none _ _ _ (entries-hold _ c.requires.0.0) (λ k. omega (arith, c.slice_known-1.given k))
 
-loop-holds : tie.Need-loop-init invariant-loop decreases-loop
-loop-holds c = resets_none _ _ _ (entries-hold _ (from-gathered c).requires.0.0) (λ k. omega (arith, c.before.before.before.before.slice-known.given k))
-
-reset-row-requires : tie.Need-reset-row-requires invariant-loop decreases-loop
+reset-row-requires : tie.Need-reset_row-requires invariant-loop decreases-loop
 reset-row-requires c κs =
-    let t = c.before.before.before.before.before.before in
-    (t.before.loop.invariant.filled.held.whole, omega (arith, t.loop-test.true))
+    (c.loop-a.invariant.filled.held.whole, omega (arith, c.loop-a-test.true))
 
-loop-again : tie.Need-loop-preserved invariant-loop decreases-loop
+loop-again : tie.Need-loop-a-preserved-then-has invariant-loop decreases-loop
 unfolding registry_in
 loop-again c =
-    let r = c.before.before in
-    let f = r.before.before in
-    let h = f.before.before.before in
-    let t = h.before.before in
-    let l = t.before in
-    let e = sym h.before.has.ensures ∙ h.if1.true in
-    resets-take _ _ _ l.loop.invariant t.loop-test.true e r.reset-row.ensures (l.before.gather-rows.ensures.row f.row_from.ensures e)
-    (λ k. omega (arith, c.slice-known2.given k))
+    let e = sym c.has.ensures ∙ c.if-has.true in
+    resets-take _ _ _ c.loop-a.invariant c.loop-a-test.true e c.reset_row.ensures (c.gather_rows-gathered.ensures.row c.row_from-ruled.ensures e)
+    (λ k. omega (arith, c.slice_known-then-has-1.given k))
 
-loop-again-2 : tie.Need-loop-preserved-2 invariant-loop decreases-loop
-loop-again-2 c = resets-skip _ _ _ c.before.before.before.loop.invariant c.before.before.loop-test.true (sym c.before.has.ensures ∙ c.if1.false)
+loop-again-2 : tie.Need-loop-a-preserved invariant-loop decreases-loop
+loop-again-2 c = resets-skip _ _ _ c.loop-a.invariant c.loop-a-test.true (sym c.has.ensures ∙ c.if-has.false)
 
-same_length : tie.Need-same-length invariant-loop decreases-loop
-same_length c = let h = c.before.loop.invariant.filled.held.whole in let n = formed-whole _ (from-gathered c.before.before).pre.0.0 in search rules
+same_length : tie.Need-shape_of-memory invariant-loop decreases-loop
+same_length c = let h = c.loop-a.invariant.filled.held.whole in let n = formed-whole _ c.requires.0.0 in search rules
 
 returns : tie.Need-returns invariant-loop decreases-loop
-returns c = resets-all _ _ _ c.before.loop.invariant c.loop-test.false
+returns c = resets-all _ _ _ c.loop-a.invariant c.loop-a-test.false
 
 pub reset_spec : {M : Type 1} → statement M
 reset_spec =

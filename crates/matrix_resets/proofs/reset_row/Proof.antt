@@ -9,12 +9,12 @@ use Rattle.matrix_resets.proofs.reset_row.Tie as tie
 
 returns : tie.Need-returns
 returns c =
-    let x = c.before.before.before.before.before.before.before.before.before.before.args in
-    row-reset x.memory.now c.before.before.before.before.either.result x.a (bit_at x.columns) _ c.before.before.before.before.before.before.before.before.before.before.requires.1
-    (c.before.before.before.before.either.ensures
-    ∙ ap₂ join (c.before.before.before.before.before.before.except.ensures ∙ ap (λ l. less (bit_at l) (bit_at x.columns)) c.before.before.before.before.before.before.before.row_at.ensures)
-    c.before.before.before.before.before.both.ensures)
-    c.before.before.set-row.ensures
+    let x = c.args in
+    row-reset x.memory.now c.either-row.result x.a (bit_at x.columns) _ c.requires.1
+    (c.either-row.ensures
+    ∙ ap₂ join (c.except.ensures ∙ ap (λ l. less (bit_at l) (bit_at x.columns)) c.row_at-old.ensures)
+    c.both.ensures)
+    c.set_row.ensures
 
 pub reset_row_spec : {M : Type 1} → statement M
 reset_row_spec =

@@ -6,23 +6,19 @@ use borrow.Author.Rules.{rules}
 use Rattle.opening.proofs.open.Statement.{statement}
 use Rattle.opening.proofs.open.Tie as tie
 
-returns : tie.Need-returns
-returns c = sym (step-size _ _ c.if1.true)
+returns : tie.Need-returns-then-memory-ne-WORDS
+returns c = sym (step-size _ _ c.if-memory-ne-WORDS.true)
 
-returns-2 : tie.Need-returns-2
+returns-2 : tie.Need-returns-in-Refused
 returns-2 c =
-    let r = c.before.before.before in
-    sym (open-refused-by _ _ r.before.if1.false _ r.read-settings.ensures _ c.before.tested.given.1)
+    sym (open-refused-by _ _ c.if-memory-ne-WORDS.false _ c.read_settings-reading.ensures _ c.in-Refused.is)
 
 start-requires : tie.Need-start-requires
-start-requires c κs = c.before.before.before.before.before.if1.false
+start-requires c κs = c.if-memory-ne-WORDS.false
 
-returns-3 : tie.Need-returns-3
+returns-3 : tie.Need-returns
 returns-3 c =
-    let s = c.before.before in
-    let e = s.before.before.before in
-    let r = e.before.before in
-    sym (open-answer _ _ r.before.if1.false _ r.read-settings.ensures _ e.enum_told.given.1 s.start.ensures)
+    sym (open-answer _ _ c.if-memory-ne-WORDS.false _ c.read_settings-reading.ensures _ c.in_default.is c.start.ensures)
 
 pub open_spec : {M : Type 1} → statement M
 open_spec =

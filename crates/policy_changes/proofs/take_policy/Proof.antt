@@ -14,65 +14,42 @@ use Rattle.policy_changes.proofs.PolicyChanged.{held-entries, held-standing, hel
 use Rattle.policy_changes.proofs.take_policy.Statement.{statement}
 use Rattle.policy_changes.proofs.take_policy.Tie as tie
 
--- from where the slot is free to its clearing, to what was worked out before it, and to the function's start
-module _ (k : tie.After-slice-known3) where
-  abbrev cleared : tie.After-clear-slot
-  cleared = k.before.before
-
-  abbrev chosen : tie.After-selected-row
-  chosen = cleared.before.before
-
-  abbrev counted : tie.After-containers-standing
-  counted = chosen.before.before
-
-  abbrev begun : tie.Start
-  begun = counted.before.before.before.before
-
-  held : cleared.clear-slot.last.0 ≡ image (policy_placed (registry_in begun.args.memory.now) begun.args.slot.0 none)
-  held = policy-image _ begun.pre.0 _ none begun.pre.1 cleared.clear-slot.ensures (λ i. omega (arith, k.slice-known3.given i))
+-- the slot is free, and the bits are as they were
+held : (k : tie.After-slice_known-3-1) → k.clear_slot.new.memory ≡ image (policy_placed (registry_in k.args.memory.now) k.args.slot.0 none)
+held k = policy-image _ k.requires.0 _ none k.requires.1 k.clear_slot.ensures (λ i. omega (arith, k.slice_known-3-1.given i))
 
 settle-requires : tie.Need-settle-requires
 settle-requires c κs =
-    let k = c.before in
-    let p = (begun k).requires in
-    (held-entries _ p.0 _ p.1 none refl (held k), p.1, (counted k).containers-standing.ensures ∙ held-standing _ p.0 _ p.1 none refl (held k))
+    let p = c.requires in
+    (held-entries _ p.0 _ p.1 none refl (held c.before), p.1, c.containers_standing-standing.ensures ∙ held-standing _ p.0 _ p.1 none refl (held c.before))
 
 reset-requires : tie.Need-reset-requires
 reset-requires c κs =
-    let s = c.before.before.before.before.before.before.before.before in
-    let k = s.before.before in
-    let p = (begun k).requires in (
+    let p = c.requires in (
       (
-        change-entries _ p.0 _ p.1 none refl (held k) s.settle.ensures.0,
-        (counted k).containers-standing.ensures ∙ change-standing _ p.0 _ p.1 none refl (held k) s.settle.ensures.0,
+        change-entries _ p.0 _ p.1 none refl (held c.before.before.before.before.before.before.before.before.before.before) c.settle.ensures.0,
+        c.containers_standing-standing.ensures ∙ change-standing _ p.0 _ p.1 none refl (held c.before.before.before.before.before.before.before.before.before.before) c.settle.ensures.0,
       ),
-      (p.1, change-stored _ p.0 _ p.1 none refl (held k) s.settle.ensures.0),
+      (p.1, change-stored _ p.0 _ p.1 none refl (held c.before.before.before.before.before.before.before.before.before.before) c.settle.ensures.0),
     )
 
 -- what it selected, and still would
-selection-held : (k : tie.After-slice-known3) → bit_at (chosen k).selected-row.result ≡ selection (model_in (cleared k).clear-slot.new.0) (policy_at (begun k).args.memory.now (begun k).args.slot.0)
+selection-held : (k : tie.After-slice_known-3-1) → bit_at k.selected_row-selected.result ≡ selection (model_in k.clear_slot.new.memory) (policy_at k.args.memory.now k.args.slot.0)
 selection-held k =
-    let p = (begun k).requires in
-    (chosen k).selected-row.ensures ∙ selected-selection _ _ _ (policy-at _ _ p.2) ∙ held-selection _ p.0 _ p.1 none refl (held k) _
+    let p = k.requires in
+    k.selected_row-selected.ensures ∙ selected-selection _ _ _ (policy-at _ _ p.2) ∙ held-selection _ p.0 _ p.1 none refl (held k) _
 
-returns : tie.Need-returns
+returns : tie.Need-returns-then-is_empty
 returns c =
-    let e = c.before.before in
-    let s = e.before.before in
-    let k = s.before.before in
-    let p = (begun k).requires in
-    change-over _ p.0 _ p.1 none refl (held k) s.settle.ensures.0 _ (λ i. omega (arith, e.slice-known4.given i)) (selection-held k) (sym c.before.is-empty.ensures ∙ c.if1.true)
+    let p = c.requires in
+    change-over _ p.0 _ p.1 none refl (held c.before.before.before.before.before.before) c.settle.ensures.0 _ (λ i. omega (arith, c.slice_known-4-1.given i)) (selection-held c.before.before.before.before.before.before) (sym c.is_empty.ensures ∙ c.if-is_empty.true)
 
-returns-2 : tie.Need-returns-2
+returns-2 : tie.Need-returns
 returns-2 c =
-    let r = c.before.before in
-    let g = c.before.before.before.before.before.before in
-    let s = c.before.before.before.before.before.before.before.before.before.before.before in
-    let k = s.before.before in
-    let p = (begun k).requires in
-    change-done _ p.0 _ p.1 none refl (held k) s.settle.ensures.0 _ r.reset.ensures
-    (g.region-of.ensures.is _ _ (stored-direction _ p.0 _ p.1 _ (policy-at _ _ p.2)) (selection-held k)
-    ((counted k).containers-standing.ensures ∙ held-standing _ p.0 _ p.1 none refl (held k)))
+    let p = c.requires in
+    change-done _ p.0 _ p.1 none refl (held c.before.before.before.before.before.before.before.before.before.before.before.before.before) c.settle.ensures.0 _ c.reset.ensures
+    (c.region_of-region.ensures.is _ _ (stored-direction _ p.0 _ p.1 _ (policy-at _ _ p.2)) (selection-held c.before.before.before.before.before.before.before.before.before.before.before.before.before)
+    (c.containers_standing-standing.ensures ∙ held-standing _ p.0 _ p.1 none refl (held c.before.before.before.before.before.before.before.before.before.before.before.before.before)))
 
 pub take_policy_spec : {M : Type 1} → statement M
 take_policy_spec =

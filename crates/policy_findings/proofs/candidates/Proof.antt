@@ -8,23 +8,22 @@ use Rattle.policy_findings.proofs.CandidateLaws.{of-one-direction, above}
 use Rattle.policy_findings.proofs.candidates.Statement.{statement}
 use Rattle.policy_findings.proofs.candidates.Tie as tie
 
-of-direction-requires : tie.Need-of-direction-requires
+of-direction-requires : tie.Need-of_direction-requires
 of-direction-requires c κs =
-    let p = c.before.before.requires in
+    let p = c.requires in
     let d = direction-known _ p.0.formed _ p.0.here in
     (p.0.formed, omega (arith, d.0), d.1)
 
-returns : tie.Need-returns
+returns : tie.Need-returns-then-kind-eq5
 returns c =
-    let p = c.before.before.before.before.before.requires in
-    of-one-direction _ _ _ p.0 p.1 c.before.before.of-direction.ensures c.before.both.ensures
+    let p = c.requires in
+    of-one-direction _ _ _ p.0 p.1 c.of_direction.ensures c.both-some.ensures
 
-returns-2 : tie.Need-returns-2
+returns-2 : tie.Need-returns
 returns-2 c =
-    let e = c.before.before in
-    let p = e.before.before.before.before.before.requires in
-    above _ _ _ p.0 e.if1.false (of-one-direction _ _ _ p.0 p.1 e.before.before.of-direction.ensures e.before.both.ensures)
-    (c.both2.ensures ∙ ap (meet _) c.before.at_least_lem.ensures)
+    let p = c.requires in
+    above _ _ _ p.0 c.if-kind-eq5.false (of-one-direction _ _ _ p.0 p.1 c.of_direction.ensures c.both-some.ensures)
+    (c.both.ensures ∙ ap (meet _) c.at_least.ensures)
 
 pub candidates_spec : {M : Type 1} → statement M
 candidates_spec =

@@ -7,22 +7,22 @@ use Rattle.policy_findings.proofs.PolicyKinds.{needless-zero, needless-one, need
 use Rattle.policy_findings.proofs.irrelevance.Statement.{statement}
 use Rattle.policy_findings.proofs.irrelevance.Tie as tie
 
-returns : tie.Need-returns
+returns : tie.Need-returns-then-is_empty
 returns c =
-    c.with.ensures ∙ ap (insert 0) c.before.none.ensures
-    ∙ needless-zero _ _ (not-true _ (sym c.before.before.before.is-empty.ensures ∙ c.before.before.if1.true))
+    c.with.ensures ∙ ap (insert 0) c.none.ensures
+    ∙ needless-zero _ _ (not-true _ (sym c.is_empty.ensures ∙ c.if-is_empty.true))
 
-returns-2 : tie.Need-returns-2
+returns-2 : tie.Need-returns-then-is_empty-2
 returns-2 c =
-    c.with2.ensures ∙ ap (insert 1) c.before.none2.ensures
-    ∙ needless-one _ _ (not-false _ (sym c.before.before.before.before.before.is-empty.ensures ∙ c.before.before.before.before.if1.false))
-    (not-true _ (sym c.before.before.before.is-empty2.ensures ∙ c.before.before.if2.true))
+    c.with-then-is_empty-2.ensures ∙ ap (insert 1) c.none-then-is_empty-2.ensures
+    ∙ needless-one _ _ (not-false _ (sym c.is_empty.ensures ∙ c.if-is_empty.false))
+    (not-true _ (sym c.is_empty-2.ensures ∙ c.if-is_empty-2.true))
 
-returns-3 : tie.Need-returns-3
+returns-3 : tie.Need-returns
 returns-3 c =
-    c.none3.ensures
-    ∙ needless-none _ _ (not-false _ (sym c.before.before.before.before.is-empty.ensures ∙ c.before.before.before.if1.false))
-    (not-false _ (sym c.before.before.is-empty2.ensures ∙ c.before.if2.false))
+    c.none-2.ensures
+    ∙ needless-none _ _ (not-false _ (sym c.is_empty.ensures ∙ c.if-is_empty.false))
+    (not-false _ (sym c.is_empty-2.ensures ∙ c.if-is_empty-2.false))
 
 pub irrelevance_spec : {M : Type 1} → statement M
 irrelevance_spec =

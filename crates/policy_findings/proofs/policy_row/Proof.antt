@@ -19,60 +19,51 @@ use Rattle.policy_findings.proofs.policy_row.Statement.{statement}
 use Rattle.policy_findings.proofs.policy_row.Tie as tie
 
 -- past the first test a policy stands at a
-here : (e : tie.Else1) → let k = e.before.before.before in AtPolicy k.args.memory.now k.args.a
+here : (e : tie.Else-not-has) → AtPolicy e.args.memory.now e.args.a
 here e =
-    let p = e.before.before.before.requires in
-    at-policy _ _ _ (formed-entries _ p.0) p.1 (sym e.before.has.ensures ∙ not-false _ e.if1.false)
+    let p = e.requires in
+    at-policy _ _ _ (formed-entries _ p.0) p.1 (sym e.has.ensures ∙ e.if-not-has.false)
 
 -- past the third neither is empty
-compared : (e : tie.Else3) → let r = e.before.before.before.before in let k = r.before.before.before.before.before in Compared k.args.memory.now r.before.stored-selected.result r.stored-allowed.result k.args.a
+compared : (e : tie.Else-is_empty) → Compared e.args.memory.now e.stored_selected-who.result e.stored_allowed-whom.result e.args.a
 compared e =
-    let n = none-empty _ _ e.before.before.is-empty.ensures e.before.is-empty2.ensures e.if3.false in
-    let r = e.before.before.before.before in
-    record { formed = r.before.before.before.before.before.requires.0; at = here r.before.before; selected = r.before.stored-selected.ensures; allowed = r.stored-allowed.ensures; selects_some = n.0; allows_some = n.1 }
+    let n = none-empty _ _ e.is_empty.ensures e.is_empty-2.ensures e.if-is_empty.false in
+    record { formed = e.requires.0; at = here e.before.before.before.before.before.before; selected = e.stored_selected-who.ensures; allowed = e.stored_allowed-whom.ensures; selects_some = n.0; allows_some = n.1 }
 
-returns : tie.Need-returns
+returns : tie.Need-returns-then-not-has
 returns c =
-    let p = c.before.before.before.before.requires in
-    c.none.ensures ∙ no-policy _ _ _ p.3 (sym (point p.1 _) ∙ sym c.before.before.has.ensures ∙ not-true _ c.before.if1.true)
+    let p = c.requires in
+    c.none.ensures ∙ no-policy _ _ _ p.3 (sym (point p.1 _) ∙ sym c.has.ensures ∙ c.if-not-has.true)
 
-returns-2 : tie.Need-returns-2
+returns-2 : tie.Need-returns-then-kind-eq7
 returns-2 c =
-    let r = c.before.before in
-    let p = r.before.before.before.before.before.requires in
-    of-kind _ 7 _ _ (c.irrelevance.ensures ∙ ap₂ needless (ap has_some r.before.stored-selected.ensures) (ap has_some r.stored-allowed.ensures) ∙ needless-row _ p.0 _ (here r.before.before).here) c.before.if2.true
+    let p = c.requires in
+    of-kind _ 7 _ _ (c.irrelevance.ensures ∙ ap₂ needless (ap has_some c.stored_selected-who.ensures) (ap has_some c.stored_allowed-whom.ensures) ∙ needless-row _ p.0 _ (here c.before.before.before.before).here) c.if-kind-eq7.true
 
-returns-3 : tie.Need-returns-3
+returns-3 : tie.Need-returns-then-is_empty
 returns-3 c =
-    let t = c.before.before in
-    let r = t.before.before.before in
-    let p = r.before.before.before.before.before.requires in
-    c.none2.ensures
-    ∙ compared-none _ p.0 _ (here r.before.before).here _ p.3 t.before.before.if2.false
-    (sym (ap₂ (λ x y. has_some x && has_some y) r.before.stored-selected.ensures r.stored-allowed.ensures) ∙ one-empty (has_some (bit_at r.before.stored-selected.result)) (has_some (bit_at r.stored-allowed.result)) t.before.is-empty.ensures t.is-empty2.ensures c.before.if3.true)
+    let p = c.requires in
+    c.none-then-is_empty.ensures
+    ∙ compared-none _ p.0 _ (here c.before.before.before.before.before.before.before).here _ p.3 c.if-kind-eq7.false
+    (sym (ap₂ (λ x y. has_some x && has_some y) c.stored_selected-who.ensures c.stored_allowed-whom.ensures) ∙ one-empty (has_some (bit_at c.stored_selected-who.result)) (has_some (bit_at c.stored_allowed-whom.result)) c.is_empty.ensures c.is_empty-2.ensures c.if-is_empty.true)
 
-candidates-requires : tie.Need-candidates-requires
-candidates-requires c κs = ((compared c.before).at, c.before.before.before.before.before.before.before.before.before.before.requires.1)
+candidates-requires : tie.Need-candidates-some-requires
+candidates-requires c κs = ((compared c.before).at, c.requires.1)
 
-compare-all-requires : tie.Need-compare-all-requires
-compare-all-requires c κs = (compared c.before.before, c.candidates.ensures)
+compare-all-requires : tie.Need-compare_all-requires
+compare-all-requires c κs = (compared c.before.before, c.candidates-some.ensures)
 
-returns-4 : tie.Need-returns-4
+returns-4 : tie.Need-returns-then-kind-lt7
 returns-4 c =
-    let t = c.before.before in
-    let r = t.before.before.before.before.before in
-    let p = r.before.before.before.before.before.requires in
-    c.compare-all.ensures ∙ c.before.candidates.ensures.row ∙ comparison-row _ _ (here r.before.before).here refl _ p.3 t.if4.true
+    let p = c.requires in
+    c.compare_all.ensures ∙ c.candidates-some.ensures.row ∙ comparison-row _ _ (here c.before.before.before.before.before.before.before.before.before).here refl _ p.3 c.if-kind-lt7.true
 
-returns-5 : tie.Need-returns-5
+returns-5 : tie.Need-returns
 returns-5 c =
-    let e = c.before in
-    let t = e.before in
-    let two = t.before.before.before in
-    let p = two.before.before.before.before.before.before.requires in
-    c.none3.ensures
+    let p = c.requires in
+    c.none-2.ensures
     ∙ no_kind _ _ _ (λ z. omega (arith, p.3)) (λ z. omega (arith, p.3)) (λ z. omega (arith, p.3)) (λ z. omega (arith, p.3))
-    (λ z. omega (arith, e.if4.false)) (λ z. omega (arith, e.if4.false)) two.if2.false
+    (λ z. omega (arith, c.if-kind-lt7.false)) (λ z. omega (arith, c.if-kind-lt7.false)) c.if-kind-eq7.false
 
 pub policy_row_spec : {M : Type 1} → statement M
 policy_row_spec =

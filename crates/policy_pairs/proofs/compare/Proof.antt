@@ -6,23 +6,23 @@ use Rattle.policy_pairs.proofs.ComparisonLaws.{comparison-5, comparison-6, compa
 use Rattle.policy_pairs.proofs.compare.Statement.{statement}
 use Rattle.policy_pairs.proofs.compare.Tie as tie
 
-returns : tie.Need-returns
-returns c = sym (comparison-apart _ _ _ _ (sym c.before.one-direction.ensures ∙ not-true _ c.if1.true))
+returns : tie.Need-returns-then-not-one_direction
+returns c = sym (comparison-apart _ _ _ _ (sym c.one_direction.ensures ∙ c.if-not-one_direction.true))
 
-returns-2 : tie.Need-returns-2
-returns-2 c = c.shadow-at.ensures ∙ sym (comparison-5 _ _ _ _ c.before.if2.true)
+returns-2 : tie.Need-returns-then-kind-eq5
+returns-2 c = c.shadow_at.ensures ∙ sym (comparison-5 _ _ _ _ c.if-kind-eq5.true)
 
-returns-3 : tie.Need-returns-3
-returns-3 c = sym (comparison-below _ _ _ _ c.before.if2.false c.if3.true)
+returns-3 : tie.Need-returns-then-b-a
+returns-3 c = sym (comparison-below _ _ _ _ c.if-kind-eq5.false c.if-b-a.true)
 
-returns-4 : tie.Need-returns-4
-returns-4 c = c.conflict-at.ensures ∙ sym (comparison-6 _ _ _ _ c.before.before.if2.false)
+returns-4 : tie.Need-returns
+returns-4 c = c.conflict_at.ensures ∙ sym (comparison-6 _ _ _ _ c.if-kind-eq5.false)
 
 pub compare_spec : {M : Type 1} → statement M
 compare_spec =
     tie.close
     (tie.spec
-    (λ c κs. let p = c.before.requires in (p.0.at, p.1))
+    (λ c κs. let p = c.requires in (p.0.at, p.1))
     returns
     (λ c κs. search rules)
     returns-2

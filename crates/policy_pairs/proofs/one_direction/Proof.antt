@@ -6,7 +6,7 @@ use Rattle.policy_pairs.proofs.one_direction.Statement.{statement}
 use Rattle.policy_pairs.proofs.one_direction.Tie as tie
 
 returns : tie.Need-returns
-returns c = let p = c.before.before.requires in sym (one-direction _ p.0.formed _ _ p.0.here p.1.here)
+returns c = let p = c.requires in sym (one-direction _ p.0.formed _ _ p.0.here p.1.here)
 
 pub one_direction_spec : {M : Type 1} → statement M
 one_direction_spec =

@@ -17,44 +17,41 @@ use borrow.Author.Rules.{rules}
 use Rattle.queries.proofs.carries_user.Statement.{statement}
 use Rattle.queries.proofs.carries_user.Tie as tie
 
-returns : tie.Need-returns
-returns c = sym (memory-refused _ _ (sym c.before.before.before.test-memory.ensures ∙ c.before.tested.given.1) _ refl)
+returns : tie.Need-returns-in-Refused
+returns c = sym (memory-refused _ _ (sym c.test_memory-tested.ensures ∙ c.in-Refused.is) _ refl)
 
-formed : (c : tie.After-enum-told) → well_formed c.before.before.before.before.args.memory.now ≡ true
-formed c = memory-passed _ (sym c.before.before.test-memory.ensures ∙ c.enum_told.given.1)
+formed : (c : tie.In_default) → well_formed c.args.memory.now ≡ true
+formed c = memory-passed _ (sym c.test_memory-tested.ensures ∙ c.in_default.is)
 
-test-slot-requires : tie.Need-test-slot-requires
+test-slot-requires : tie.Need-test_slot-named-requires
 test-slot-requires c κs = containers-within _ (formed c)
 
-returns-2 : tie.Need-returns-2
+returns-2 : tie.Need-returns-in-Refused-named
 unfolding refusals registry_in
 returns-2 c =
-    let t = c.before.before.before in
-    sym (container-refused _ (formed t.before) _ _ _ refl (sym t.test-slot.ensures ∙ c.before.named.given.1))
+    sym (container-refused _ (formed c.before.before) _ _ _ refl (sym c.test_slot-named.ensures ∙ c.in-Refused-named.is))
 
 -- the slot passed
-passed : (c : tie.After-enum-told2) → let s = c.before.before.before.before.before.before.before in container_test s.args.memory.now s.args.slot.0 ≡ Passed
-passed c = sym c.before.before.test-slot.ensures ∙ c.enum-told2.given.1
+passed : (c : tie.In_default-named) → container_test c.args.memory.now c.args.slot.0 ≡ Passed
+passed c = sym c.test_slot-named.ensures ∙ c.in_default-named.is
 
-returns-3 : tie.Need-returns-3
-returns-3 c = let t = c.before in sym (user-above _ (formed t.before.before.before) _ _ (passed t) c.if1.true)
+returns-3 : tie.Need-returns-then-value-gt65535
+returns-3 c = sym (user-above _ (formed c.before.before.before) _ _ (passed c.before) c.if-value-gt65535.true)
 
 -- what is read lies within the memory, and the user key is small
-bounds : (c : tie.Else1) → let s = c.before.before.before.before.before.before.before.before in
-    (s.args.slot.0 < 256) × Whole s.args.memory.now × (word_at s.args.memory.now 0 ≤ 8388608)
+bounds : (c : tie.Else-value-gt65535) → (c.args.slot.0 < 256) × Whole c.args.memory.now × (word_at c.args.memory.now 0 ≤ 8388608)
 bounds c =
-    let w = formed-entries _ (formed c.before.before.before.before) in
+    let w = formed-entries _ (formed c.before.before.before) in
     ((container-passed _ _ (passed c.before)).0, w.whole, formed-small _ w 0 (omega arith))
 
-carries-requires : tie.Need-carries-requires
+carries-requires : tie.Need-carries-says-requires
 carries-requires c κs =
-    let w = formed-entries _ (formed c.before.before.before.before.before) in
+    let w = formed-entries _ (formed c.before.before.before.before) in
     container-within _ w.whole (formed-slots _ w) _ (bounds c.before).0
 
-returns-4 : tie.Need-returns-4
+returns-4 : tie.Need-returns
 returns-4 c =
-    let e = c.before.before in
-    sym (user-answer _ (formed e.before.before.before.before) _ _ (passed e.before) _ e.if1.false c.carries.ensures)
+    sym (user-answer _ (formed c.before.before.before.before.before) _ _ (passed c.before.before.before) _ c.if-value-gt65535.false c.carries-says.ensures)
 
 pub carries_user_spec : {M : Type 1} → statement M
 carries_user_spec =

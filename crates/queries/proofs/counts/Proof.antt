@@ -9,17 +9,15 @@ use borrow.Author.Rules.{rules}
 use Rattle.queries.proofs.counts.Statement.{statement}
 use Rattle.queries.proofs.counts.Tie as tie
 
-returns : tie.Need-returns
-returns c = sym (memory-refused _ _ (sym c.before.before.before.test-memory.ensures ∙ c.before.tested.given.1) _ refl)
+returns : tie.Need-returns-in-Refused
+returns c = sym (memory-refused _ _ (sym c.test_memory-tested.ensures ∙ c.in-Refused.is) _ refl)
 
-formed : (c : tie.After-enum-told) → well_formed c.before.before.before.before.args.memory.now ≡ true
-formed c = memory-passed _ (sym c.before.before.test-memory.ensures ∙ c.enum_told.given.1)
+formed : (c : tie.In_default) → well_formed c.args.memory.now ≡ true
+formed c = memory-passed _ (sym c.test_memory-tested.ensures ∙ c.in_default.is)
 
-returns-2 : tie.Need-returns-2
+returns-2 : tie.Need-returns
 returns-2 c =
-    let q = c.before in
-    let p = q.before in
-    sym (counts-answer _ (formed p.before) _ _ _ p.count-containers.ensures q.count-policies.ensures c.pairs.ensures)
+    sym (counts-answer _ (formed c.before.before.before) _ _ _ c.count_containers-containers.ensures c.count_policies-policies.ensures c.pairs-pairs.ensures)
 
 pub counts_spec : {M : Type 1} → statement M
 counts_spec =

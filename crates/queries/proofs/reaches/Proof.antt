@@ -13,49 +13,42 @@ use borrow.Author.Rules.{rules}
 use Rattle.queries.proofs.reaches.Statement.{statement}
 use Rattle.queries.proofs.reaches.Tie as tie
 
-returns : tie.Need-returns
-returns c = sym (memory-refused _ _ (sym c.before.before.before.test-memory.ensures ∙ c.before.tested.given.1) _ refl)
+returns : tie.Need-returns-in-Refused
+returns c = sym (memory-refused _ _ (sym c.test_memory-tested.ensures ∙ c.in-Refused.is) _ refl)
 
-formed : (c : tie.After-enum-told) → well_formed c.before.before.before.before.args.memory.now ≡ true
-formed c = memory-passed _ (sym c.before.before.test-memory.ensures ∙ c.enum_told.given.1)
+formed : (c : tie.In_default) → well_formed c.args.memory.now ≡ true
+formed c = memory-passed _ (sym c.test_memory-tested.ensures ∙ c.in_default.is)
 
-returns-2 : tie.Need-returns-2
-returns-2 c = sym (reaches-beyond-right _ (formed c.before) _ _ c.if1.true)
+returns-2 : tie.Need-returns-then-b-ge-CONTAINER_SLOTS
+returns-2 c = sym (reaches-beyond-right _ (formed c.before) _ _ c.if-b-ge-CONTAINER_SLOTS.true)
 
-test-slot-requires : tie.Need-test-slot-requires
+test-slot-requires : tie.Need-test_slot-first-requires
 test-slot-requires c κs = containers-within _ (formed c.before)
 
-returns-3 : tie.Need-returns-3
+returns-3 : tie.Need-returns-in-Refused-first
 returns-3 c =
-    let t = c.before.before.before in
-    sym (reaches-refused-left _ (formed t.before.before) _ _ _ t.before.if1.false (sym t.test-slot.ensures ∙ c.before.first.given.1))
+    sym (reaches-refused-left _ (formed c.before.before.before) _ _ _ c.if-b-ge-CONTAINER_SLOTS.false (sym c.test_slot-first.ensures ∙ c.in-Refused-first.is))
 
 -- the first slot passed
-first : (c : tie.After-enum-told2) → let s = c.before.before.before.before.before.before.before.before in container_test s.args.memory.now s.args.from.0 ≡ Passed
-first c = sym c.before.before.test-slot.ensures ∙ c.enum-told2.given.1
+first : (c : tie.In_default-first) → container_test c.args.memory.now c.args.from.0 ≡ Passed
+first c = sym c.test_slot-first.ensures ∙ c.in_default-first.is
 
-test-slot-requires-2 : tie.Need-test-slot-requires-2
-test-slot-requires-2 c κs = containers-within _ (formed c.before.before.before.before)
+test-slot-requires-2 : tie.Need-test_slot-second-requires
+test-slot-requires-2 c κs = containers-within _ (formed c.before.before.before)
 
-returns-4 : tie.Need-returns-4
+returns-4 : tie.Need-returns-in-Refused-second
 returns-4 c =
-    let t = c.before.before.before in
-    let e = t.before.before.before.before in
-    sym (reaches-refused-right _ (formed e.before) _ _ _ e.if1.false (first t.before) (sym t.test-slot2.ensures ∙ c.before.second.given.1))
+    sym (reaches-refused-right _ (formed c.before.before.before.before.before) _ _ _ c.if-b-ge-CONTAINER_SLOTS.false (first c.before.before) (sym c.test_slot-second.ensures ∙ c.in-Refused-second.is))
 
 -- what is read lies within the memory
-bounds : (c : tie.After-enum-told3) → let s = c.before.before.before.before.before.before.before.before.before.before.before in
-    (s.args.from.0 < 256) × Whole s.args.memory.now
+bounds : (c : tie.In_default-second) → (c.args.from.0 < 256) × Whole c.args.memory.now
 bounds c =
-    let t = c.before.before.before in
-    ((container-passed _ _ (first t)).0, (formed-memory _ (formed t.before.before.before.before)).whole)
+    ((container-passed _ _ (first c.before.before)).0, (formed-memory _ (formed c.before.before.before.before.before)).whole)
 
-returns-5 : tie.Need-returns-5
+returns-5 : tie.Need-returns
 returns-5 c =
-    let d = c.before.before in
-    let t = d.before.before.before in
-    sym (reaches-answer _ (formed t.before.before.before.before) _ _ _ (first t) (sym d.before.before.test-slot2.ensures ∙ d.enum-told3.given.1)
-    c.bit-of.ensures)
+    sym (reaches-answer _ (formed c.before.before.before.before.before.before.before) _ _ _ (first c.before.before.before.before) (sym c.test_slot-second.ensures ∙ c.in_default-second.is)
+    c.bit_of-says.ensures)
 
 pub reaches_spec : {M : Type 1} → statement M
 reaches_spec =

@@ -11,33 +11,30 @@ use borrow.Author.Rules.{rules}
 use Rattle.removal.proofs.remove_container.Statement.{statement}
 use Rattle.removal.proofs.remove_container.Tie as tie
 
-returns : tie.Need-returns
-returns c = sym (memory-refused _ _ (sym c.before.before.before.test-memory.ensures ∙ c.before.tested.given.1) _ refl)
+returns : tie.Need-returns-in-Refused
+returns c = sym (memory-refused _ _ (sym c.test_memory-tested.ensures ∙ c.in-Refused.is) _ refl)
 
-formed : (c : tie.After-enum-told) → well_formed c.before.before.before.before.before.args.memory.now ≡ true
-formed c = memory-passed _ (sym c.before.before.test-memory.ensures ∙ c.enum_told.given.1)
+formed : (c : tie.In_default) → well_formed c.args.memory.now ≡ true
+formed c = memory-passed _ (sym c.test_memory-tested.ensures ∙ c.in_default.is)
 
-test-slot-requires : tie.Need-test-slot-requires
-test-slot-requires c κs = containers-within _ (formed c.before)
+test-slot-requires : tie.Need-test_slot-named-requires
+test-slot-requires c κs = containers-within _ (formed c)
 
-returns-2 : tie.Need-returns-2
+returns-2 : tie.Need-returns-in-Refused-named
 unfolding refusals registry_in
 returns-2 c =
-    let t = c.before.before.before in
-    sym (container-refused _ (formed t.before.before) _ _ _ refl (sym t.test-slot.ensures ∙ c.before.named.given.1))
+    sym (container-refused _ (formed c.before.before) _ _ _ refl (sym c.test_slot-named.ensures ∙ c.in-Refused-named.is))
 
 -- the slot passed
-passed : (c : tie.After-enum-told2) → let s = c.before.before.before.before.before.before.before.before.before in container_test s.args.memory.now s.args.slot.0 ≡ Passed
-passed c = sym c.before.before.test-slot.ensures ∙ c.enum-told2.given.1
+passed : (c : tie.In_default-named) → container_test c.args.memory.now c.args.slot.0 ≡ Passed
+passed c = sym c.test_slot-named.ensures ∙ c.in_default-named.is
 
-take-container-requires : tie.Need-take-container-requires
-take-container-requires c κs = (formed-entries _ (formed c.before.before.before.before.before), (container-passed _ _ (passed c.before)).0)
+take-container-requires : tie.Need-take_container-requires
+take-container-requires c κs = (formed-entries _ (formed c.before.before.before), (container-passed _ _ (passed c.before)).0)
 
-returns-3 : tie.Need-returns-3
+returns-3 : tie.Need-returns
 returns-3 c =
-    let d = c.before.before in
-    let e = d.before.before in
-    sym (remove-answer _ (formed e.before.before.before.before) _ _ (passed e) d.take-container.ensures)
+    sym (remove-answer _ (formed c.before.before.before.before.before.before) _ _ (passed c.before.before.before.before) c.take_container.ensures)
 
 pub remove_container_spec : {M : Type 1} → statement M
 remove_container_spec =

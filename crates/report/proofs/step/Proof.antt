@@ -9,22 +9,21 @@ use Rattle.report.proofs.step.Statement.{statement}
 use Rattle.report.proofs.step.Tie as tie
 
 take-requires : tie.Need-take-requires
-take-requires c κs = let g = subst (λ s. started_in s < 512) c.before.before.before.before.state.given.1 c.before.before.before.before.before.before.before.before.before.before.requires.1 in (search rules, g, search rules)
+take-requires c κs = let g = subst (λ s. started_in s < 512) c.in-Taking.is c.requires.1 in (search rules, g, search rules)
 
-returns : tie.Need-returns
-returns c = let g = subst (λ s. started_in s < 512) c.before.before.before.before.before.before.before.before.before.before.before.state.given.1 c.before.before.before.before.before.before.before.before.before.before.before.before.before.before.before.before.before.requires.1 in let k = c.before.before.before.before.before.before.before.before.before.before.known-told.given in step-take _ _ _ _ _ _ c.before.before.before.before.before.before.before.before.before.before.before.state.given.1 g (omega (arith, k)) c.before.before.before.before.before.before.take.ensures.0 c.before.before.before.before.before.before.take.ensures.1
+returns : tie.Need-returns-in-Taking
+returns c = let g = subst (λ s. started_in s < 512) c.in-Taking.is c.requires.1 in let k = c.known_told-1.given in step-take _ _ _ _ _ _ c.in-Taking.is g (omega (arith, k)) c.take.ensures.0 c.take.ensures.1
 
-returns-2 : tie.Need-returns-2
-returns-2 c = step_count _ _ _ _ _ _ c.before.before.before.before.before.enum_told.given.1 c.before.before.tell-counts.ensures
+returns-2 : tie.Need-returns-in-Counting
+returns-2 c = step_count _ _ _ _ _ _ c.in-Counting.is c.tell_counts-told.ensures
 
-returns-3 : tie.Need-returns-3
+returns-3 : tie.Need-returns-in-Listing
 returns-3 c =
-    let s = c.before.before.before.before.before.before in
-    let k = c.before.before.before.before.before.known-told2.given in
-    step-list _ _ _ _ _ _ s.state2.given.1 (search rules) (omega (arith, k)) (omega (arith, k)) (omega (arith, k)) c.before.before.tell-findings.ensures
+    let k = c.known_told-in-Listing-1.given in
+    step-list _ _ _ _ _ _ c.in-Listing.is (search rules) (omega (arith, k)) (omega (arith, k)) (omega (arith, k)) c.tell_findings-told.ensures
 
-returns-4 : tie.Need-returns-4
-returns-4 c = step-none _ _ _ _ _ _ c.enum-told2.given.1
+returns-4 : tie.Need-returns-in-Finished
+returns-4 c = step-none _ _ _ _ _ _ c.in-Finished.is
 
 pub step_spec : {M : Type 1} → statement M
 step_spec =

@@ -8,28 +8,26 @@ use borrow.Author.Rules.{rules}
 use Rattle.report.proofs.take.Statement.{statement}
 use Rattle.report.proofs.take.Tie as tie
 
-returns : tie.Need-returns
+returns : tie.Need-returns-then-blocks-eq0
 returns c =
-    let t = c.before.before.before.before.before.before.take-one.ensures in
-    let i = c.before.before.before.before.before.before.before.before.before.before in
-    (does-as (take-one _ _ _ _ _ _ _ _ i.before.whole-blocks.ensures.0 i.if1.true) t.0, t.1)
+    let t = c.take_one.ensures in
+    (does-as (take-one _ _ _ _ _ _ _ _ c.whole_blocks-blocks.ensures.0 c.if-blocks-eq0.true) t.0, t.1)
 
-slice-aggregate-take-blocks : tie.Need-slice-aggregate-take-blocks
+slice-aggregate-take-blocks : tie.Need-slice_bounds-take_blocks-end
 slice-aggregate-take-blocks c = sym (length-take-le _ _ (omega arith))
 
-take-blocks-requires : tie.Need-take-blocks-requires
+take-blocks-requires : tie.Need-take_blocks-put-requires
 take-blocks-requires c κs =
-    let b = c.before.before.before.before.whole-blocks in
+    let b = c.whole_blocks-blocks in
     let e = b.ensures.1 in
-    let l = length-take-le (512 * b.result) c.before.before.before.before.before.before.before.before.before.args.piece.now e.1 in
+    let l = length-take-le (512 * b.result) c.args.piece.now e.1 in
     (omega (arith, l, e.0), omega (arith, l), omega (arith, l, e.2), omega (arith, l, e.3))
 
-returns-2 : tie.Need-returns-2
+returns-2 : tie.Need-returns
 returns-2 c =
-    let t = c.before.before.before.before.take-blocks.ensures in
-    let i = c.before.before.before.before.before.before.before.before in
-    let b = i.before.whole-blocks.ensures in
-    (does-as (take-several _ _ _ _ _ _ _ _ b.0 i.if1.false) (record { memory = t.0; block = refl; text = t.1; state = refl; used = refl }), b.1.1)
+    let t = c.take_blocks-put.ensures in
+    let b = c.whole_blocks-blocks.ensures in
+    (does-as (take-several _ _ _ _ _ _ _ _ b.0 c.if-blocks-eq0.false) (record { memory = t.0; block = refl; text = t.1; state = refl; used = refl }), b.1.1)
 
 pub take_spec : {M : Type 1} → statement M
 take_spec =

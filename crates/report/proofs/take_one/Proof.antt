@@ -8,20 +8,20 @@ use borrow.Author.Rules.{rules}
 use Rattle.report.proofs.take_one.Statement.{statement}
 use Rattle.report.proofs.take_one.Tie as tie
 
-returns : tie.Need-returns
-returns c = (does-as (take_last _ _ _ _ _ _ c.if1.true) (record { memory = refl; block = refl; text = puts_none (omega arith); state = refl; used = refl }), omega arith)
+returns : tie.Need-returns-then-n-eq18446744073709551615
+returns c = (does-as (take_last _ _ _ _ _ _ c.if-n-eq18446744073709551615.true) (record { memory = refl; block = refl; text = puts_none (omega arith); state = refl; used = refl }), omega arith)
 
-returns-2 : tie.Need-returns-2
-returns-2 c = (does-as (take_on _ _ _ _ _ _ c.before.before.before.before.before.before.before.if1.false _ c.before.before.before.before.before.before.share.ensures.0 _ c.before.before.before.before.copy.ensures ∙ with-more _ _ _ _ _ _ (sym c.before.waits.ensures ∙ c.if2.true)) (record { memory = refl; block = refl; text = puts_none (omega arith); state = refl; used = refl }), omega arith)
+returns-2 : tie.Need-returns-then-waits
+returns-2 c = (does-as (take_on _ _ _ _ _ _ c.if-n-eq18446744073709551615.false _ c.share-used.ensures.0 _ c.copy.ensures ∙ with-more _ _ _ _ _ _ (sym c.waits.ensures ∙ c.if-waits.true)) (record { memory = refl; block = refl; text = puts_none (omega arith); state = refl; used = refl }), omega arith)
 
-returns-3 : tie.Need-returns-3
-returns-3 c = (does-as (take_on _ _ _ _ _ _ c.before.before.before.before.before.before.before.before.before.before.before.before.if1.false _ c.before.before.before.before.before.before.before.before.before.before.before.share.ensures.0 _ c.before.before.before.before.before.before.before.before.before.copy.ensures ∙ with-end _ _ _ _ _ _ (sym c.before.before.before.before.before.before.waits.ensures ∙ c.before.before.before.before.before.if2.false) c.before.before.before.before.if3.true) (record { memory = refl; block = refl; text = c.before.before.end_after.ensures.text; state = c.before.before.end_after.ensures.state; used = refl }), omega arith)
+returns-3 : tie.Need-returns-then-bytes-eq0
+returns-3 c = (does-as (take_on _ _ _ _ _ _ c.if-n-eq18446744073709551615.false _ c.share-used.ensures.0 _ c.copy.ensures ∙ with-end _ _ _ _ _ _ (sym c.waits.ensures ∙ c.if-waits.false) c.if-bytes-eq0.true) (record { memory = refl; block = refl; text = c.end_after-told.ensures.text; state = c.end_after-told.ensures.state; used = refl }), omega arith)
 
-slice-aggregate-take-block : tie.Need-slice-aggregate-take-block
+slice-aggregate-take-block : tie.Need-slice_bounds-take_block-end-2
 slice-aggregate-take-block c = sym (length-take-le _ _ (omega arith))
 
-returns-4 : tie.Need-returns-4
-returns-4 c = (does-as (take_on _ _ _ _ _ _ c.before.before.before.before.before.before.before.before.before.before.before.before.before.before.before.before.if1.false _ c.before.before.before.before.before.before.before.before.before.before.before.before.before.before.before.share.ensures.0 _ c.before.before.before.before.before.before.before.before.before.before.before.before.before.copy.ensures ∙ with-block _ _ _ _ _ _ (sym c.before.before.before.before.before.before.before.before.before.before.waits.ensures ∙ c.before.before.before.before.before.before.before.before.before.if2.false) c.before.before.before.before.before.before.before.before.if3.false) (record { memory = c.before.before.before.before.take-block.ensures.memory; block = refl; text = c.before.before.before.before.take-block.ensures.text; state = c.before.before.before.before.take-block.ensures.state; used = refl }), omega arith)
+returns-4 : tie.Need-returns
+returns-4 c = (does-as (take_on _ _ _ _ _ _ c.if-n-eq18446744073709551615.false _ c.share-used.ensures.0 _ c.copy.ensures ∙ with-block _ _ _ _ _ _ (sym c.waits.ensures ∙ c.if-waits.false) c.if-bytes-eq0.false) (record { memory = c.take_block-told.ensures.memory; block = refl; text = c.take_block-told.ensures.text; state = c.take_block-told.ensures.state; used = refl }), omega arith)
 
 pub take_one_spec : {M : Type 1} → statement M
 take_one_spec =

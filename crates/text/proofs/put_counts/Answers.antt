@@ -8,6 +8,6 @@ use Rattle.text.proofs.put_counts.Goals as goal
 pub returns : goal.returns
 unfolding counts_line
 returns c = record {
-    puts = puts_then (puts_then c.put_named-second.ensures.puts c.put_named-third.ensures.puts) c.put_named.ensures.puts;
-    upper_bound = omega arith;
-  }
+  puts = puts_then (puts_then c.put_named-second.ensures.puts c.put_named-third.ensures.puts) c.put_named.ensures.puts;
+  upper_bound = omega arith;
+}

@@ -33,11 +33,10 @@ put-number-requires-3 c κs =
 
 returns : tie.Need-returns
 unfolding code_line three_numbers
-returns c =
-    (
-      puts_then (puts_then c.put_number-second.ensures.0 c.put_number-third.ensures.0) c.put_number.ensures.0,
-      omega (arith, short c.before.before.before.before.before.before.before.before.before.before.before.before.before, first-end c.before.before.before.before.before.before.before.before.before.before, second-end c.before.before.before.before.before.before, simp length-append at c.put_number.ensures.0.stops),
-    )
+returns c = (
+  puts_then (puts_then c.put_number-second.ensures.0 c.put_number-third.ensures.0) c.put_number.ensures.0,
+  omega (arith, short c.before.before.before.before.before.before.before.before.before.before.before.before.before, first-end c.before.before.before.before.before.before.before.before.before.before, second-end c.before.before.before.before.before.before, simp length-append at c.put_number.ensures.0.stops),
+)
 
 pub put_finding_spec : {M : Type 1} → statement M
 put_finding_spec =

@@ -9,9 +9,9 @@ use Rattle.text.proofs.put_refusal.Goals as goal
 pub returns : goal.returns
 unfolding refused_line
 returns c = record {
-    puts = puts_then c.put_named-next.ensures.puts c.put_number.ensures.puts;
-    upper_bound = omega arith;
-  }
+  puts = puts_then c.put_named-next.ensures.puts c.put_number.ensures.puts;
+  upper_bound = omega arith;
+}
 
 pub put_number-requires : goal.put_number-requires
 put_number-requires c = omega (arith, decimal-short 19 c.args.refusal (omega arith))

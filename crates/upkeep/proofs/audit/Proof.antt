@@ -9,14 +9,14 @@ use borrow.Author.Rules.{rules}
 use Rattle.upkeep.proofs.audit.Statement.{statement}
 use Rattle.upkeep.proofs.audit.Tie as tie
 
-returns : tie.Need-returns
-returns c = sym (memory-refused _ _ (sym c.before.before.before.test-memory.ensures ∙ c.before.tested.given.1) _ refl)
+returns : tie.Need-returns-in-Refused
+returns c = sym (memory-refused _ _ (sym c.test_memory-tested.ensures ∙ c.in-Refused.is) _ refl)
 
-formed : (c : tie.After-enum-told) → well_formed c.before.before.before.before.args.memory.now ≡ true
-formed c = memory-passed _ (sym c.before.before.test-memory.ensures ∙ c.enum_told.given.1)
+formed : (c : tie.In_default) → well_formed c.args.memory.now ≡ true
+formed c = memory-passed _ (sym c.test_memory-tested.ensures ∙ c.in_default.is)
 
-returns-2 : tie.Need-returns-2
-returns-2 c = sym (audit-answer _ (formed c.before) _ c.is-consistent.ensures)
+returns-2 : tie.Need-returns
+returns-2 c = sym (audit-answer _ (formed c.before) _ c.is_consistent-consistent.ensures)
 
 pub audit_spec : {M : Type 1} → statement M
 audit_spec =

@@ -8,17 +8,16 @@ use borrow.Author.Rules.{rules}
 use Rattle.walks.proofs.findings.Statement.{statement}
 use Rattle.walks.proofs.findings.Tie as tie
 
-returns : tie.Need-returns
+returns : tie.Need-returns-in-Refused
 returns c =
-    findings-refused _ _ _ _ (memory-refused _ _ (sym c.before.before.before.test-memory.ensures ∙ c.before.tested.given.1) _ refl)
+    findings-refused _ _ _ _ (memory-refused _ _ (sym c.test_memory-tested.ensures ∙ c.in-Refused.is) _ refl)
 
-formed : (c : tie.After-enum-told) → well_formed c.before.before.before.before.before.args.memory.now ≡ true
-formed c = memory-passed _ (sym c.before.before.test-memory.ensures ∙ c.enum_told.given.1)
+formed : (c : tie.In_default) → well_formed c.args.memory.now ≡ true
+formed c = memory-passed _ (sym c.test_memory-tested.ensures ∙ c.in_default.is)
 
-returns-2 : tie.Need-returns-2
+returns-2 : tie.Need-returns
 returns-2 c =
-    let s = c.before.before.before in
-    findings-answer _ (formed s.before.before) _ s.list.ensures.0 s.list.ensures.1
+    findings-answer _ (formed c.before.before.before.before.before) _ c.list-put.ensures.0 c.list-put.ensures.1
 
 pub findings_spec : {M : Type 1} → statement M
 findings_spec =

@@ -8,21 +8,19 @@ use borrow.Author.Rules.{rules}
 use Rattle.walks.proofs.next_finding.Statement.{statement}
 use Rattle.walks.proofs.next_finding.Tie as tie
 
-returns : tie.Need-returns
-returns c = sym (memory-refused _ _ (sym c.before.before.before.test-memory.ensures ∙ c.before.tested.given.1) _ refl)
+returns : tie.Need-returns-in-Refused
+returns c = sym (memory-refused _ _ (sym c.test_memory-tested.ensures ∙ c.in-Refused.is) _ refl)
 
-formed : (c : tie.After-enum-told) → well_formed c.before.before.before.before.args.memory.now ≡ true
-formed c = memory-passed _ (sym c.before.before.test-memory.ensures ∙ c.enum_told.given.1)
+formed : (c : tie.In_default) → well_formed c.args.memory.now ≡ true
+formed c = memory-passed _ (sym c.test_memory-tested.ensures ∙ c.in_default.is)
 
-returns-2 : tie.Need-returns-2
+returns-2 : tie.Need-returns-in-Found
 returns-2 c =
-    let s = c.before.before.before in
-    sym (next-answer _ (formed s.before) _ _ (sym c.before.step.given.1 ∙ s.next.ensures))
+    sym (next-answer _ (formed c.before.before) _ _ (sym c.in-Found.is ∙ c.next-step.ensures))
 
-returns-3 : tie.Need-returns-3
+returns-3 : tie.Need-returns-in-Done
 returns-3 c =
-    let s = c.before.before in
-    sym (next-answer _ (formed s.before) _ _ (sym c.enum-told2.given.1 ∙ s.next.ensures))
+    sym (next-answer _ (formed c.before.before) _ _ (sym c.in-Done.is ∙ c.next-step.ensures))
 
 pub next_finding_spec : {M : Type 1} → statement M
 next_finding_spec =

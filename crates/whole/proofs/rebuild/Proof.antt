@@ -12,42 +12,38 @@ use Rattle.whole.proofs.WholeLaws.{Rebuilding, rebuilding-next, rebuilt-image}
 use Rattle.whole.proofs.rebuild.Statement.{statement}
 use Rattle.whole.proofs.rebuild.Tie as tie
 
-abbrev invariant-loop : tie.invariant-loop
+abbrev invariant-loop : tie.invariant-loop-r
 invariant-loop memory₀ selected allowed outs backs gathered r₀ memory r = Rebuilding (registry_in memory₀) memory r × Fit memory
 
-abbrev decreases-loop : tie.decreases-loop
+abbrev decreases-loop : tie.decreases-loop-r
 decreases-loop memory₀ selected allowed outs backs gathered r₀ memory r = row_count - r
 
-containers-standing-requires : tie.Need-containers-standing-requires invariant-loop decreases-loop
-containers-standing-requires c κs = formed-whole _ c.before.before.requires
+containers-standing-requires : tie.Need-containers_standing-standing-requires invariant-loop decreases-loop
+containers-standing-requires c κs = formed-whole _ c.requires
 
-gather-requires : tie.Need-gather-requires invariant-loop decreases-loop
-gather-requires c κs = let s = c.before.before.before.before.before in ((s.before.before.before.requires, s.containers-standing.ensures), (none-known (empty-rows 128) (empty-rows 128), (empty-rows 256, empty-rows 256)))
+gather-requires : tie.Need-gather-gathered-requires invariant-loop decreases-loop
+gather-requires c κs = ((c.requires, c.containers_standing-standing.ensures), (none-known (empty-rows 128) (empty-rows 128), (empty-rows 256, empty-rows 256)))
 
-loop-holds : tie.Need-loop-init invariant-loop decreases-loop
-loop-holds c = let ok = c.before.before.before.before.before.before.before.before.before.requires in (filling-none (entries-hold _ ok), λ k. omega (arith, c.before.before.before.before.before.before.before.before.slice-known.given k))
+loop-holds : tie.Need-loop-r-init invariant-loop decreases-loop
+loop-holds c = let ok = c.requires in (filling-none (entries-hold _ ok), λ k. omega (arith, c.slice_known-1.given k))
 
-set-row-requires : tie.Need-set-row-requires invariant-loop decreases-loop
-set-row-requires c κs = let t = c.before.before.before.before.before.before in (t.before.loop.invariant.0.held.whole, omega (arith, t.loop-test.true))
+set-row-requires : tie.Need-set_row-requires invariant-loop decreases-loop
+set-row-requires c κs = (c.loop-r.invariant.0.held.whole, omega (arith, c.loop-r-test.true))
 
-loop-again : tie.Need-loop-preserved invariant-loop decreases-loop
+loop-again : tie.Need-loop-r-preserved invariant-loop decreases-loop
 unfolding registry_in
-loop-again c =
-    let s = c.before.before in
-    let b = s.before.before in
-    let t = b.before.before.before.before.before in
-    let g = t.before.before in (
-      rebuilding-next _ t.before.loop.invariant.0 (omega (arith, t.loop-test.true)) _
-          (b.row-of-bits.ensures.is g.gather.ensures g.before.before.before.before.before.before.containers-standing.ensures)
-          s.set-row.ensures,
-      λ k. omega (arith, c.slice-known2.given k),
-    )
+loop-again c = (
+  rebuilding-next _ c.loop-r.invariant.0 (omega (arith, c.loop-r-test.true)) _
+      (c.row_of_bits-row.ensures.is c.gather-gathered.ensures c.containers_standing-standing.ensures)
+      c.set_row.ensures,
+  λ k. omega (arith, c.slice_known-in-loop-r-1.given k),
+)
 
-same_length : tie.Need-same-length invariant-loop decreases-loop
-same_length c = let h = c.before.loop.invariant.0.held.whole in let n = formed-whole _ c.before.before.before.before.before.before.before.before.before.before.before.requires in search rules
+same_length : tie.Need-shape_of-memory invariant-loop decreases-loop
+same_length c = let h = c.loop-r.invariant.0.held.whole in let n = formed-whole _ c.requires in search rules
 
 returns : tie.Need-returns invariant-loop decreases-loop
-returns c = rebuilt-image _ c.before.loop.invariant.0 c.loop-test.false c.before.loop.invariant.1
+returns c = rebuilt-image _ c.loop-r.invariant.0 c.loop-r-test.false c.loop-r.invariant.1
 
 pub rebuild_spec : {M : Type 1} → statement M
 rebuild_spec =

@@ -10,20 +10,20 @@ use Rattle.formed.proofs.StoredLaws.{stored-matrix, stored-selected, stored-allo
 use Rattle.whole.proofs.row_of_bits.Statement.{statement}
 use Rattle.whole.proofs.row_of_bits.Tie as tie
 
-returns : tie.Need-returns
+returns : tie.Need-returns-then-r-lt-SELECTED_ROWS
 unfolding computed_bits
-returns c = record { is = λ g e. c.row_from.ensures.is g (λ h. point e _ ∙ h) ∙ sym (stored-matrix _ _ c.before.if1.true) }
+returns c = record { is = λ g e. c.row_from.ensures.is g (λ h. point e _ ∙ h) ∙ sym (stored-matrix _ _ c.if-r-lt-SELECTED_ROWS.true) }
 
-returns-2 : tie.Need-returns-2
+returns-2 : tie.Need-returns-then-r-eq0
 unfolding computed_bits
 returns-2 c =
-    let there : c.before.before.before.args.r ≡ selected_row (band_index selected_band c.before.before.before.args.r) = omega arith in
+    let there : c.args.r ≡ selected_row (band_index selected_band c.args.r) = omega arith in
     record { is = λ g e. g.sets.selected.row _ (omega arith) ∙ sym (ap (stored_bit _) there ∙ stored-selected _ _ (omega arith)) }
 
-returns-3 : tie.Need-returns-3
+returns-3 : tie.Need-returns
 unfolding computed_bits
 returns-3 c =
-    let there : c.before.before.before.args.r ≡ allowed_row (band_index selected_band c.before.before.before.args.r) = omega arith in
+    let there : c.args.r ≡ allowed_row (band_index selected_band c.args.r) = omega arith in
     record { is = λ g e. g.sets.allowed.row _ (omega arith) ∙ sym (ap (stored_bit _) there ∙ stored-allowed _ _ (omega arith)) }
 
 pub row_of_bits_spec : {M : Type 1} → statement M

@@ -1,0 +1,2 @@
+-- What a clause knows of the bytes that are handed on.
+pub mod Bytes
