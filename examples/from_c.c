@@ -1,6 +1,6 @@
 /* Reads blocks, opens a registry with the first and admits the others, asks who reaches whom, lists the findings, saves the
  * registry to a file and opens it again.
- *   rt staticlib registry_c
+ *   bash .ci/staticlib
  *   cc -Iinclude examples/from_c.c target/staticlib/libregistry_c.a -o from_c
  *   ./from_c saved.blocks < examples/printed-sheet.blocks
  */

@@ -1,5 +1,5 @@
 """The same from Python, over a shared library made of the static one:
-  rt staticlib registry_c
+  bash .ci/staticlib
   cc -shared -o libbihokura.so -Wl,--whole-archive target/staticlib/libregistry_c.a -Wl,--no-whole-archive
   python3 examples/from_python.py ./libbihokura.so saved.blocks < examples/printed-sheet.blocks
 """

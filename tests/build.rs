@@ -1,4 +1,4 @@
-// Links the register's static library, which `rt staticlib registry_c` writes, and compiles fast_lister in two ways.
+// Links the register's static library, which `bash .ci/staticlib` writes, and compiles fast_lister in two ways.
 use std::env::var;
 use std::process::Command;
 

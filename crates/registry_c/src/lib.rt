@@ -1,6 +1,8 @@
-// The calls for C, Rust and others: numbers and slices only. An answer is one number: the refusal's number in the top byte, 0 where
-// the call was accepted, and below it the slot, 0 or 1, the finding, how many findings were put into a list, the counts, or how many
-// bytes were written.
+// The calls as C, Rust and others make them, which `bihokura_c` exports: numbers and slices only. An answer is one number: the
+// refusal's number in the top byte, 0 where the call was accepted, and below it the slot, 0 or 1, the finding, how many findings
+// were put into a list, the counts, or how many bytes were written.
+#![tactic(auto)]
+
 ghost use Rattle.std.specs.Prelude.{◌≡◌, length};
 ghost use Rattle.buffer.specs.Buffer.{overwritten};
 ghost use Rattle.model.specs.Calls.{open_with, change, admit, admit_batch, remove_container, remove_policy, rebuild, ask, ask_reaches, ask_user, next_finding, list_findings, counts, audit, write, written, tally_left};
@@ -12,15 +14,13 @@ use findings::Cursor;
 use model::{ContainerSlot, PolicySlot};
 use registry::{Admitted, Counted, FilePut, FindingsPut, NextFinding, Outcome, Reply, Tally};
 
-#[unsafe(no_mangle)]
-pub extern "C" fn bihokura_words() -> u64
+pub fn bihokura_words() -> u64
     ensures { result ≡ memory_words }
 {
     registry::words() as u64
 }
 
-#[unsafe(no_mangle)]
-pub extern "C" fn bihokura_open(memory: &mut [u64], block: &[u8]) -> u64
+pub fn bihokura_open(memory: &mut [u64], block: &[u8]) -> u64
     ensures { (memory.new, result) ≡ coded_step memory.old (open_with block.now) }
 {
     let answer = registry::open(memory, block);
@@ -30,8 +30,7 @@ pub extern "C" fn bihokura_open(memory: &mut [u64], block: &[u8]) -> u64
     }
 }
 
-#[unsafe(no_mangle)]
-pub extern "C" fn bihokura_admit(memory: &mut [u64], block: &[u8]) -> u64
+pub fn bihokura_admit(memory: &mut [u64], block: &[u8]) -> u64
     ensures { (memory.new, result) ≡ coded_step memory.old (change (admit block.now)) }
 {
     let answer = registry::admit(memory, block);
@@ -76,8 +75,7 @@ pub fn batch_coded(
 }
 
 // The same, with the tally lent.
-#[unsafe(no_mangle)]
-pub extern "C" fn bihokura_admit_batch(
+pub fn bihokura_admit_batch(
     memory: &mut [u64],
     blocks: &[u8],
     answers: &mut [u16],
@@ -92,8 +90,7 @@ pub extern "C" fn bihokura_admit_batch(
     done.number
 }
 
-#[unsafe(no_mangle)]
-pub extern "C" fn bihokura_remove_container(memory: &mut [u64], slot: u64) -> u64
+pub fn bihokura_remove_container(memory: &mut [u64], slot: u64) -> u64
     ensures { (memory.new, result) ≡ coded_step memory.old (change (remove_container slot)) }
 {
     let answer = registry::remove_container(memory, ContainerSlot(slot as usize));
@@ -103,8 +100,7 @@ pub extern "C" fn bihokura_remove_container(memory: &mut [u64], slot: u64) -> u6
     }
 }
 
-#[unsafe(no_mangle)]
-pub extern "C" fn bihokura_remove_policy(memory: &mut [u64], slot: u64) -> u64
+pub fn bihokura_remove_policy(memory: &mut [u64], slot: u64) -> u64
     ensures { (memory.new, result) ≡ coded_step memory.old (change (remove_policy slot)) }
 {
     let answer = registry::remove_policy(memory, PolicySlot(slot as usize));
@@ -114,8 +110,7 @@ pub extern "C" fn bihokura_remove_policy(memory: &mut [u64], slot: u64) -> u64
     }
 }
 
-#[unsafe(no_mangle)]
-pub extern "C" fn bihokura_reaches(memory: &[u64], a: u64, b: u64) -> u64
+pub fn bihokura_reaches(memory: &[u64], a: u64, b: u64) -> u64
     ensures { (memory.now, result) ≡ coded_step memory.now (ask (ask_reaches a b)) }
 {
     let answer = registry::reaches(memory, ContainerSlot(a as usize), ContainerSlot(b as usize));
@@ -125,8 +120,7 @@ pub extern "C" fn bihokura_reaches(memory: &[u64], a: u64, b: u64) -> u64
     }
 }
 
-#[unsafe(no_mangle)]
-pub extern "C" fn bihokura_carries_user(memory: &[u64], slot: u64, value: u64) -> u64
+pub fn bihokura_carries_user(memory: &[u64], slot: u64, value: u64) -> u64
     ensures { (memory.now, result) ≡ coded_step memory.now (ask (ask_user slot value)) }
 {
     let answer = registry::carries_user(memory, ContainerSlot(slot as usize), value);
@@ -136,8 +130,7 @@ pub extern "C" fn bihokura_carries_user(memory: &[u64], slot: u64, value: u64) -
     }
 }
 
-#[unsafe(no_mangle)]
-pub extern "C" fn bihokura_next_finding(memory: &[u64], kind: u16, a: u16, b: u16) -> u64
+pub fn bihokura_next_finding(memory: &[u64], kind: u16, a: u16, b: u16) -> u64
     ensures { (memory.now, result) ≡ coded_step memory.now (ask (next_finding (record { kind = kind; a = a; b = b }))) }
 {
     let answer = registry::next_finding(
@@ -155,14 +148,7 @@ pub extern "C" fn bihokura_next_finding(memory: &[u64], kind: u16, a: u16, b: u1
     }
 }
 
-#[unsafe(no_mangle)]
-pub extern "C" fn bihokura_findings(
-    memory: &[u64],
-    kind: u16,
-    a: u16,
-    b: u16,
-    list: &mut [u64],
-) -> u64
+pub fn bihokura_findings(memory: &[u64], kind: u16, a: u16, b: u16, list: &mut [u64]) -> u64
     ensures result_value { (memory.now, result) ≡ coded_step memory.now (ask (list_findings (record { kind = kind; a = a; b = b }) (length list.old))) }
     ensures list_after { list.new ≡ overwritten list.old (written (memory_step memory.now (ask (list_findings (record { kind = kind; a = a; b = b }) (length list.old)))).1) }
 {
@@ -181,8 +167,7 @@ pub extern "C" fn bihokura_findings(
     }
 }
 
-#[unsafe(no_mangle)]
-pub extern "C" fn bihokura_counts(memory: &[u64]) -> u64
+pub fn bihokura_counts(memory: &[u64]) -> u64
     ensures { (memory.now, result) ≡ coded_step memory.now (ask counts) }
 {
     let answer = registry::counts(memory);
@@ -194,8 +179,7 @@ pub extern "C" fn bihokura_counts(memory: &[u64]) -> u64
     }
 }
 
-#[unsafe(no_mangle)]
-pub extern "C" fn bihokura_rebuild(memory: &mut [u64]) -> u64
+pub fn bihokura_rebuild(memory: &mut [u64]) -> u64
     ensures { (memory.new, result) ≡ coded_step memory.old (change rebuild) }
 {
     let answer = registry::rebuild(memory);
@@ -205,8 +189,7 @@ pub extern "C" fn bihokura_rebuild(memory: &mut [u64]) -> u64
     }
 }
 
-#[unsafe(no_mangle)]
-pub extern "C" fn bihokura_audit(memory: &[u64]) -> u64
+pub fn bihokura_audit(memory: &[u64]) -> u64
     ensures { (memory.now, result) ≡ coded_step memory.now (ask audit) }
 {
     let answer = registry::audit(memory);
@@ -216,8 +199,7 @@ pub extern "C" fn bihokura_audit(memory: &[u64]) -> u64
     }
 }
 
-#[unsafe(no_mangle)]
-pub extern "C" fn bihokura_write(memory: &[u64], bytes: &mut [u8]) -> u64
+pub fn bihokura_write(memory: &[u64], bytes: &mut [u8]) -> u64
     ensures result_value { (memory.now, result) ≡ coded_step memory.now (ask (write (length bytes.old))) }
     ensures bytes_after { bytes.new ≡ overwritten bytes.old (written (memory_step memory.now (ask (write (length bytes.old)))).1) }
 {
