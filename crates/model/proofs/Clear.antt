@@ -10,7 +10,8 @@ use Rattle.model.specs.Model.{Model}
 use Rattle.model.specs.Registry.{Registry, BitsStand, computed, change_container, change_policy}
 use Rattle.model.proofs.Changes.{entries_after, set_bits, bits_after}
 use Rattle.model.proofs.Book.{Book, BookLaws, BitPlace, matrix, selected, allowed, EntryChange, container_becomes, policy_becomes}
-use Rattle.model.proofs.Book.{put_entry, bit_by_rules, touched_by, book_changes, off-pair, other-container, other-policy}
+use Rattle.model.proofs.Book.{put_entry, bit_by_rules, touched_by, book_changes}
+use Rattle.model.proofs.BookLawful.{off-pair, other-container, other-policy}
 use Rattle.model.proofs.WrittenRules.{model_book, model-laws, registry_with, registry_after, registry-change, computed-is}
 
 module _ {S P : Type 0} (B : Book S P) where

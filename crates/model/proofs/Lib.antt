@@ -8,7 +8,9 @@ pub mod Next
 pub mod Pairs
 pub mod Consistent
 pub mod Changes
+pub mod ChangesLaws
 pub mod Book
+pub mod BookLawful
 pub mod WrittenRules
 pub mod Clear
 pub mod Admission

@@ -22,8 +22,10 @@ use Rattle.model.specs.OnePass.{containers_came, policies_came, entries_placed, 
 use Rattle.model.proofs.Lists.{All, both}
 use Rattle.model.proofs.Tables.{lowest-is-free}
 use Rattle.model.proofs.Lowest.{lowest-below}
-use Rattle.model.proofs.Changes.{Changes, entries_after, set_bits, bits_after, set_once, Lawful, AllFit, once}
-use Rattle.model.proofs.Book.{BitPlace, EntryChange, container_becomes, policy_becomes, put_entry, bit_by_rules, touched_by, book_changes, other-slot, book-lawful}
+use Rattle.model.proofs.Changes.{Changes, entries_after, set_bits, bits_after, set_once, Lawful, AllFit}
+use Rattle.model.proofs.ChangesLaws.{once}
+use Rattle.model.proofs.Book.{BitPlace, EntryChange, container_becomes, policy_becomes, put_entry, bit_by_rules, touched_by, book_changes}
+use Rattle.model.proofs.BookLawful.{other-slot, book-lawful}
 use Rattle.model.proofs.WrittenRules.{written_rules, model_book, model-laws, registry_with, registry-change}
 use Rattle.model.proofs.Clear.{stored_at}
 use Rattle.model.proofs.Came.{touched_at, touched_came, none_came, Sits, one-came}

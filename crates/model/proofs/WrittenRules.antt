@@ -11,9 +11,11 @@ use Rattle.model.specs.Rules.{selects, allows, same_direction, some_selects, som
 use Rattle.model.specs.Model.{Model, with_container, with_policy, matrix_bit, selected_bit, allowed_bit, computed_bits}
 use Rattle.model.specs.Registry.{Registry, computed, set_where, change_container, touches, touched, change_policy}
 use Rattle.model.proofs.Lists.{neither}
-use Rattle.model.proofs.Changes.{set_bits, computed-after}
+use Rattle.model.proofs.Changes.{set_bits}
+use Rattle.model.proofs.ChangesLaws.{computed-after}
 use Rattle.model.proofs.Book.{Rules, IsOrFree, LawfulRules, Book, BookLaws, BitPlace, matrix, selected, allowed, EntryChange, container_becomes, policy_becomes}
-use Rattle.model.proofs.Book.{put_entry, bit_by_rules, touched_by, book_changes, Fitting, book-lawful}
+use Rattle.model.proofs.Book.{put_entry, bit_by_rules, touched_by, book_changes, Fitting}
+use Rattle.model.proofs.BookLawful.{book-lawful}
 
 unfoldable pub written_rules : Rules Policy
 written_rules = record { selects = selects; allows = allows; reaches = λ ps a b u v. reaches ps u v; touches = touches }
