@@ -29,9 +29,9 @@ pub record Standing (input : List ℕ) (old new : Option (List ℕ)) (left : Opt
   pub size : length k ≡ 512
   pub due : Due s m k coming rest
 
--- The same of an input that is known, a buffer of some bytes, and an input that can be counted.
-abbrev pub Stands : (known : Option (List ℕ)) (room : ℕ) (old new : Option (List ℕ)) (left : Option (List ℕ)) → State → (m k : List ℕ) → Type 0
-Stands known room old new left s m k = IfSome known (λ input. 0 < room → length input < 2 ^ 64 → Standing input old new left s m k)
+-- The same where the input is known, is one that can be counted, and is read into a buffer of some bytes.
+pub record Stands (known : Option (List ℕ)) (room : ℕ) (old new left : Option (List ℕ)) (s : State) (m k : List ℕ) : Type 0 where
+  pub holds : IfSome known (λ input. 0 < room → length input < 2 ^ 64 → Standing input old new left s m k)
 
 -- ---- the start
 
@@ -54,8 +54,10 @@ none-come bytes q input a e = rw (a, e) refl
 
 pub starts : (known w : Option (List ℕ)) (m k bytes : List ℕ) (input : Input) → input.at ≡ 0 → input.end ≡ 0 → length m ≡ memory_words → length k ≡ 512
     → Stands known (length bytes) w w (to_come bytes input known) start_state m k
-starts None w m k bytes input a e h size = tt
-starts (Some whole) w m k bytes input a e h size = λ room short. subst (λ l. Standing whole w w l start_state m k) (none-come bytes whole input a e) (starts-with whole w m k h size short)
+starts None w m k bytes input a e h size = record { holds = tt }
+starts (Some whole) w m k bytes input a e h size = record {
+  holds = λ room short. subst (λ l. Standing whole w w l start_state m k) (none-come bytes whole input a e) (starts-with whole w m k h size short);
+}
 
 -- ---- a refill
 
@@ -64,20 +66,21 @@ known-still None b l p e = cc
 known-still (Some x) None l p e = absurd p
 known-still (Some x) (Some y) l p e = ap Some p ∙ e
 
-pub refilled : (known : Option (List ℕ)) (room : ℕ) (old new left next : Option (List ℕ)) (s : State) (m k : List ℕ) → Keeps left next
+pub refilled : {known : Option (List ℕ)} {room : ℕ} {old new left next : Option (List ℕ)} {s : State} {m k : List ℕ} → Keeps left next
     → Stands known room old new left s m k → Stands known room old new next s m k
-refilled None room old new left next s m k p st = tt
-refilled (Some whole) room old new left next s m k p st = λ some short.
-    let x = st some short in record {
-      text = x.text;
-      rest = x.rest;
-      coming = x.coming;
-      parts = x.parts;
-      written = x.written;
-      left-is = known-still left next x.coming p x.left-is;
-      size = x.size;
-      due = x.due;
-    }
+refilled {known = None} p st = record { holds = tt }
+refilled {known = Some whole} {left = left} {next = next} p st = record {
+  holds = λ some short. let x = st.holds some short in record {
+    text = x.text;
+    rest = x.rest;
+    coming = x.coming;
+    parts = x.parts;
+    written = x.written;
+    left-is = known-still left next x.coming p x.left-is;
+    size = x.size;
+    due = x.due;
+  };
+}
 
 -- ---- a step
 
@@ -165,15 +168,24 @@ module _ (old new : Option (List ℕ)) (s : State) (m k bytes o e n l : List ℕ
       after-some input old new s m k (slice_range bytes from.at from.end) q from.ended (length o) st told next w.0
       (omega (arith, w.1, put-length)) (subst (Appends new next) (some-put w.0 w.1) w.2)
 
-  pub stepped : (known left next : Option (List ℕ)) (room : ℕ) (after : Input) → (0 < room → TellsEnd from left) → from.at + done.used ≤ from.end → after.at ≡ from.at + done.used → after.end ≡ from.end
-      → Appends new next (take done.put e) → Stands known room old new (to_come bytes from left) s m k → Stands known room old next (to_come bytes after left) done.state n l
-  stepped None left next room after told h a b w st = tt
-  stepped (Some input) left next room after told h a b w st = λ some short. stepped-one input left next after (told some) h a b w (st some short)
+-- All of its text was written.
+pub stepped : {known old new next : Option (List ℕ)} {room : ℕ} {s : State} {m k n l o e : List ℕ} {done : Stepped} (bytes : List ℕ) (left : Option (List ℕ)) (from after : Input)
+    → Does (report_step m k (slice_range bytes from.at from.end) from.ended (length o) s) n l o e done → (0 < room → TellsEnd from left)
+    → from.at + done.used ≤ from.end → after.at ≡ from.at + done.used → after.end ≡ from.end → Appends new next (take done.put e)
+    → Stands known room old new (to_come bytes from left) s m k → Stands known room old next (to_come bytes after left) done.state n l
+stepped {known = None} bytes left from after does told h a b w st = record { holds = tt }
+stepped {known = Some input} {old = old} {new = new} {next = next} {s = s} {m = m} {k = k} {n = n} {l = l} {o = o} {e = e} {done = done} bytes left from after does told h a b w st = record {
+  holds = λ some short. stepped-one old new s m k bytes o e n l from done does input left next after (told some) h a b w (st.holds some short);
+}
 
-  pub failed : (known left next : Option (List ℕ)) (room : ℕ) → (0 < room → TellsEnd from left) → AppendsSome new next e done.put → Stands known room old new (to_come bytes from left) s m k
-      → IfSome known (λ input. 0 < room → length input < 2 ^ 64 → AppendsSome old next (sheet input) (length (sheet input)))
-  failed None left next room told w st = tt
-  failed (Some input) left next room told w st = λ some short. failed-one input left next (told some) w (st some short)
+-- Some of its text was written.
+pub failed : {known old new : Option (List ℕ)} {room : ℕ} {s : State} {m k n l o e : List ℕ} {done : Stepped} (bytes : List ℕ) (left next : Option (List ℕ)) (from : Input)
+    → Does (report_step m k (slice_range bytes from.at from.end) from.ended (length o) s) n l o e done → (0 < room → TellsEnd from left)
+    → AppendsSome new next e done.put → Stands known room old new (to_come bytes from left) s m k
+    → IfSome known (λ input. 0 < room → length input < 2 ^ 64 → AppendsSome old next (sheet input) (length (sheet input)))
+failed {known = None} bytes left next from does told w st = tt
+failed {known = Some input} {old = old} {new = new} {s = s} {m = m} {k = k} {n = n} {l = l} {o = o} {e = e} {done = done} bytes left next from does told w st =
+    λ some short. failed-one old new s m k bytes o e n l from done does input left next (told some) w (st.holds some short)
 
 -- ---- the end
 
@@ -183,20 +195,20 @@ none-due Counting m k i r e d = absurd (false≢true e)
 none-due (Listing c) m k i r e d = absurd (false≢true e)
 none-due Finished m k i r e d = d
 
-pub whole : (known : Option (List ℕ)) (room : ℕ) (old new left : Option (List ℕ)) (s : State) (m k : List ℕ) → finished_in s ≡ true → Stands known room old new left s m k
+pub whole : {known : Option (List ℕ)} {room : ℕ} {old new left : Option (List ℕ)} {s : State} {m k : List ℕ} → finished_in s ≡ true → Stands known room old new left s m k
     → IfSome known (λ input. 0 < room → length input < 2 ^ 64 → Appends old new (sheet input))
-whole None room old new left s m k e st = tt
-whole (Some input) room old new left s m k e st = λ some short.
-    let y = st some short in
+whole {known = None} e st = tt
+whole {known = Some input} {old = old} {new = new} {s = s} {m = m} {k = k} e st = λ some short.
+    let y = st.holds some short in
     let all : sheet input ≡ y.text = y.parts ∙ ap (λ l. y.text ++ l) (none-due s m k y.coming y.rest e y.due) ∙ append-nil y.text in
     subst (Appends old new) (sym all) y.written
 
 -- what was written when no more could be read is the start of the sheet
-pub begun : (known : Option (List ℕ)) (room : ℕ) (old new left : Option (List ℕ)) (s : State) (m k : List ℕ) → Stands known room old new left s m k
+pub begun : {known : Option (List ℕ)} {room : ℕ} {old new left : Option (List ℕ)} {s : State} {m k : List ℕ} → Stands known room old new left s m k
     → IfSome known (λ input. 0 < room → length input < 2 ^ 64 → AppendsSome old new (sheet input) (length (sheet input)))
-begun None room old new left s m k st = tt
-begun (Some input) room old new left s m k st = λ some short.
-    let y = st some short in
+begun {known = None} st = tt
+begun {known = Some input} {old = old} {new = new} st = λ some short.
+    let y = st.holds some short in
     let e : take (length y.text) (sheet input) ≡ y.text = ap (take (length y.text)) y.parts ∙ take-append_seam y.text y.rest in
     let n : length (sheet input) ≡ length y.text + length y.rest = ap length y.parts ∙ length-append y.text y.rest in
     (length y.text, omega (arith, n), subst (Appends old new) (sym e) y.written)

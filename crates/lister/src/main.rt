@@ -1,7 +1,8 @@
 #![tactic(auto)]
 
 // The pump of the report: reads pieces of standard input, steps, and writes the text that was put, until the state says that the
-// sheet is whole. What the text is, crates `report` and `sheets` prove; what is not proved is that the system's streams hand on every byte.
+// sheet is whole. Between a reader and a writer whose bytes are known it is proved to hand on every byte; which bytes the system's
+// streams give and take, no contract says.
 ghost use Rattle.std.specs.Prelude.{◌≡◌, ◌≤◌, ◌<◌, ◌^◌, length, IfSome, OnOk, OnErr};
 ghost use Rattle.std.specs.Io.KnownBytes.{Appends};
 ghost use Rattle.store.specs.Layout.{memory_words};
@@ -32,7 +33,7 @@ impl fmt::Display for Failure {
     }
 }
 
-// Writes the whole sheet, or says why not. Each turn, the state has less ahead.
+// Writes the whole sheet, or its first bytes and says why no more. Each turn, the state has less ahead.
 fn pump<R: Read, W: Write>(
     clock: &impl Clock,
     reader: &mut R,
