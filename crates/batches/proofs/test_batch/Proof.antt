@@ -21,9 +21,8 @@ returns-3 c =
 
 returns-4 : tie.Need-returns
 returns-4 c =
-    let few = c.if-length-gt65536.false in
     let cut = c.if-length-ne0.false in
-    sym (batch-passes c.args.blocks.now c.args.numbers few cut (omega (arith, c.if-numbers-length.false, numbers-needed c.args.blocks.now cut)))
+    sym (batch-passes c.args.blocks.now c.args.numbers c.if-length-gt65536.false cut (omega (arith, c.if-numbers-length.false, numbers-needed c.args.blocks.now cut)))
 
 pub test_batch_spec : {M : Type 1} → statement M
 test_batch_spec = tie.close (tie.spec returns returns-2 (λ c. search rules) returns-3 returns-4)

@@ -12,29 +12,29 @@ returns c = sym (not-whole _ c.if-memory-ne-WORDS.true)
 
 returns-2 : tie.Need-returns-then-not-settings_ok
 unfolding tests
-returns-2 c =
-    decided _ c.if-memory-ne-WORDS.false c.shared_slice_known-1.given
+returns-2 c = let long = c.if-memory-ne-WORDS.false in
+    decided _ long c.shared_slice_known-1.given
     (and-fails _ _ (said-no c.settings_ok.ensures c.if-not-settings_ok.true))
 
 returns-3 : tie.Need-returns-then-not-containers_ok
 unfolding tests
-returns-3 c =
-    decided _ c.if-memory-ne-WORDS.false c.shared_slice_known-1.given
+returns-3 c = let long = c.if-memory-ne-WORDS.false in
+    decided _ long c.shared_slice_known-1.given
     (and-passes _ _ (said-yes c.settings_ok.ensures c.if-not-settings_ok.false)
     (and-fails _ _ (said-no c.containers_ok.ensures c.if-not-containers_ok.true)))
 
 returns-4 : tie.Need-returns-then-not-policies_ok
 unfolding tests
-returns-4 c =
-    decided _ c.if-memory-ne-WORDS.false c.shared_slice_known-1.given
+returns-4 c = let long = c.if-memory-ne-WORDS.false in
+    decided _ long c.shared_slice_known-1.given
     (and-passes _ _ (said-yes c.settings_ok.ensures c.if-not-settings_ok.false)
     (and-passes _ _ (said-yes c.containers_ok.ensures c.if-not-containers_ok.false)
     (and-fails _ _ (said-no c.policies_ok.ensures c.if-not-policies_ok.true))))
 
 returns-5 : tie.Need-returns-then-not-matrix_ok
 unfolding tests
-returns-5 c =
-    decided _ c.if-memory-ne-WORDS.false c.shared_slice_known-1.given
+returns-5 c = let long = c.if-memory-ne-WORDS.false in
+    decided _ long c.shared_slice_known-1.given
     (and-passes _ _ (said-yes c.settings_ok.ensures c.if-not-settings_ok.false)
     (and-passes _ _ (said-yes c.containers_ok.ensures c.if-not-containers_ok.false)
     (and-passes _ _ (said-yes c.policies_ok.ensures c.if-not-policies_ok.false)
@@ -42,8 +42,8 @@ returns-5 c =
 
 returns-6 : tie.Need-returns
 unfolding tests
-returns-6 c =
-    decided _ c.if-memory-ne-WORDS.false c.shared_slice_known-1.given
+returns-6 c = let long = c.if-memory-ne-WORDS.false in
+    decided _ long c.shared_slice_known-1.given
     (and-passes _ _ (said-yes c.settings_ok.ensures c.if-not-settings_ok.false)
     (and-passes _ _ (said-yes c.containers_ok.ensures c.if-not-containers_ok.false)
     (and-passes _ _ (said-yes c.policies_ok.ensures c.if-not-policies_ok.false)
