@@ -12,15 +12,14 @@ take-requires : tie.Need-take-requires
 take-requires c κs = let g = subst (λ s. started_in s < 512) c.in-Taking.is c.requires.1 in (search rules, g, search rules)
 
 returns : tie.Need-returns-in-Taking
-returns c = let g = subst (λ s. started_in s < 512) c.in-Taking.is c.requires.1 in let k = c.known_told-1.given in step-take _ _ _ _ _ _ c.in-Taking.is g (omega (arith, k)) c.take.ensures.0 c.take.ensures.1
+returns c = let g = subst (λ s. started_in s < 512) c.in-Taking.is c.requires.1 in step-take _ _ _ _ _ _ c.in-Taking.is g (search rules) c.take.ensures.0 c.take.ensures.1
 
 returns-2 : tie.Need-returns-in-Counting
 returns-2 c = step_count _ _ _ _ _ _ c.in-Counting.is c.tell_counts-told.ensures
 
 returns-3 : tie.Need-returns-in-Listing
 returns-3 c =
-    let k = c.known_told-in-Listing-1.given in
-    step-list _ _ _ _ _ _ c.in-Listing.is (search rules) (omega (arith, k)) (omega (arith, k)) (omega (arith, k)) c.tell_findings-told.ensures
+    step-list _ _ _ _ _ _ c.in-Listing.is (search rules) (search rules) (search rules) (search rules) c.tell_findings-told.ensures
 
 returns-4 : tie.Need-returns-in-Finished
 returns-4 c = step-none _ _ _ _ _ _ c.in-Finished.is
