@@ -10,7 +10,7 @@ use std::thread::{sleep, spawn, yield_now, JoinHandle};
 use std::time::{Duration, Instant};
 
 /// The program, and the script that runs it and ends with a status.
-pub const PROGRAM: &str = concat!(env!("CARGO_MANIFEST_DIR"), "/../target/bin/lister");
+pub const PROGRAM: &str = concat!(env!("CARGO_MANIFEST_DIR"), "/../crates/lister/out/lister");
 pub const SCRIPT: &str = concat!(env!("CARGO_MANIFEST_DIR"), "/../bin/lister");
 /// The same in plain Rust, as build.rs compiled it: linked as the program is, and statically.
 pub const FAST: &str = env!("FAST_LISTER");
