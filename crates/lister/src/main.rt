@@ -10,6 +10,7 @@ ghost use Rattle.sheets.specs.Sheet.{sheet};
 ghost use Rattle.streams.specs.Bytes.{AppendsSome};
 
 use std::fmt;
+use std::fs::OpenOptions;
 use std::io::{self, Read, Write};
 use std::process::ExitCode;
 use std::time::Clock;
@@ -67,6 +68,13 @@ fn pump<R: Read, W: Write>(
     Ok(())
 }
 
+// Says on descriptor 3, where one is open, that the whole sheet was written.
+fn tell_whole(rt: &HostRuntime) {
+    if let Ok(mut word) = OpenOptions::new().append(true).open(rt, "/dev/fd/3") {
+        let _ = word.write_all(b"whole\n");
+    }
+}
+
 fn main(rt: HostRuntime) -> ExitCode {
     let mut memory = [0u64; store::WORDS];
     let mut block = [0u8; 512];
@@ -83,7 +91,10 @@ fn main(rt: HostRuntime) -> ExitCode {
         &mut bytes,
         &mut out,
     ) {
-        Ok(()) => ExitCode::SUCCESS,
+        Ok(()) => {
+            tell_whole(&rt);
+            ExitCode::SUCCESS
+        }
         Err(failure) => {
             let _ = eprintln!(rt; "lister: {failure}");
             ExitCode::FAILURE
