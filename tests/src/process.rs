@@ -22,7 +22,7 @@ pub const LIMIT: Duration = Duration::from_secs(60);
 /// A command, its descriptors 0 to 2 pipes. It leads a group of processes, which can be ended as one.
 pub fn piped(program: &str) -> Command {
     // else the script proves and builds it, which takes minutes
-    assert!(Path::new(PROGRAM).exists(), "{PROGRAM} is not there; `rt run` in crates/lister builds it");
+    assert!(Path::new(PROGRAM).exists(), "{PROGRAM} is not there; bin/lister builds it");
     let mut command = Command::new(program);
     command.stdin(Stdio::piped()).stdout(Stdio::piped()).stderr(Stdio::piped()).process_group(0);
     command
