@@ -1,5 +1,5 @@
 -- The frame's refusal stands whatever checks come behind it; else byte 0 tells which layout's checks are left.
-use mathlib.Core.Path.{◌≡◌, sym, ap, ◌∙◌}
+use mathlib.Core.Path.{sym, ap, ◌∙◌}
 use native.Mathlib.Omega.{arith}
 use Rattle.block.specs.Reader.{frame}
 use Rattle.block.specs.Refusal.{first_refusal}
