@@ -3,9 +3,6 @@ use mathlib.Core.Path.{sym, ◌∙◌}
 use Rattle.policy_pairs.proofs.ComparisonLaws.{comparison-5, comparison-6, comparison-apart, comparison-below}
 use Rattle.policy_pairs.proofs.compare.Goals as goal
 
-pub one_direction-requires : goal.one_direction-requires
-one_direction-requires c = let p = c.requires in (p.0.at, p.1)
-
 pub returns-then-not-one_direction : goal.returns-then-not-one_direction
 returns-then-not-one_direction c = sym (comparison-apart _ _ _ _ (sym c.one_direction.ensures ∙ c.if-not-one_direction.true))
 
