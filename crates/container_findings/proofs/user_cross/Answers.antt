@@ -1,0 +1,26 @@
+-- One case where a has no user word, and is a stranger to all, one where it has.
+use mathlib.Core.Path.{ap, ap₂, ◌∙◌}
+use Rattle.bitrow.specs.Bit.{bit_at}
+use Rattle.bitrow.specs.Set.{meet, remove}
+use Rattle.entries.proofs.Trials.{container-within}
+use Rattle.entries.proofs.FormedEntries.{formed-slots}
+use Rattle.container_findings.proofs.ContainerRows.{cross-row, cross-all}
+use Rattle.container_findings.proofs.user_cross.Goals as goal
+
+pub word_under-word-requires : goal.word_under-word-requires
+word_under-word-requires c =
+    let p = c.requires in
+    container-within _ p.formed.whole (formed-slots _ p.formed) _ p.below
+
+pub returns-then-word-eq0 : goal.returns-then-word-eq0
+returns-then-word-eq0 c =
+    let p = c.requires in
+    let others-are = c.without-others.ensures ∙ ap (remove _) (c.both.ensures ∙ ap₂ meet p.slots (ap bit_at c.row_at-reached.ensures)) in
+    cross-all _ _ p.here p.formed others-are c.word_under-word.ensures c.if-word-eq0.true
+
+pub returns : goal.returns
+returns c =
+    let p = c.requires in
+    let others-are = c.without-others.ensures ∙ ap (remove _) (c.both.ensures ∙ ap₂ meet p.slots (ap bit_at c.row_at-reached.ensures)) in
+    c.except.ensures
+    ∙ cross-row _ _ p.here p.formed others-are c.word_under-word.ensures c.if-word-eq0.false c.same_user.ensures
