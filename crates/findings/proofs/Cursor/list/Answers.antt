@@ -21,10 +21,12 @@ loop-kind-init c =
 
 pub loop-kind-preserved-then-kind-a : goal.loop-kind-preserved-then-kind-a
 loop-kind-preserved-then-kind-a c =
-    listed-row _ c.loop-kind.invariant (both-less 0 _ _ 256 c.if-kind-a.true).1 (both-less _ 8 _ _ c.loop-kind-test.true).1 c.finding_row-row.ensures c.both.ensures c.at_least.ensures c.put_row-at.ensures
+    let small = both-less 0 c.loop-kind.kind c.loop-kind.a 256 c.if-kind-a.true in
+    let room = both-less c.loop-kind.kind 8 c.loop-kind.at (length c.loop-kind.list) c.loop-kind-test.true in
+    listed-row _ c.loop-kind.invariant small.1 room.1 c.finding_row-row.ensures c.both.ensures c.at_least.ensures c.put_row-at.ensures
 
 pub loop-kind-preserved : goal.loop-kind-preserved
-loop-kind-preserved c = listed-kind _ c.loop-kind.invariant (not-both-less 0 _ _ 256 c.if-kind-a.false)
+loop-kind-preserved c = listed-kind _ c.loop-kind.invariant (not-both-less 0 c.loop-kind.kind c.loop-kind.a 256 c.if-kind-a.false)
 
 pub returns-then-at-eq0 : goal.returns-then-at-eq0
 returns-then-at-eq0 c =
