@@ -1,7 +1,6 @@
 -- By the state: the promise of its part, and that this part leaves less ahead.
 use mathlib.Core.Path.{subst}
 use Prim.Native.Nat.{◌<◌}
-use native.Mathlib.Omega.{arith}
 use Rattle.sheets.specs.Step.{started_in}
 use Rattle.sheets.proofs.StepLaws.{step-take, step_count, step-list, step-none}
 use borrow.Author.Rules.{rules}
