@@ -84,7 +84,7 @@ fn wrong_arguments() {
     }
 }
 
-/// The word on descriptor 3 is between the program and the script: the caller's descriptor 3 gets nothing.
+/// The word on descriptor 3 is the program's alone: run by the script, the caller's descriptor 3 gets nothing.
 #[test]
 fn the_caller_s_descriptor_3() {
     let given = file("descriptor-3", b"");
