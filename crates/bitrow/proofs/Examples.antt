@@ -3,7 +3,7 @@ use mathlib.Core.Path.{◌≡◌, refl}
 use mathlib.Core.Bool.{true, false}
 use mathlib.Core.List.{List, [], ◌∷◌}
 use Prim.Native.Nat.{ℕ}
-use Rattle.bitrow.specs.declared.Found.TheVariants.{At, Nothing}
+use Rattle.std.specs.Prelude.{Some, None}
 use Rattle.bitrow.specs.Bit.{bit, bit_at}
 use Rattle.bitrow.specs.Set.{less, some, has_some, part, equal, size, first_of, lowest_from}
 
@@ -23,15 +23,15 @@ three : size (bit_at row) 256 ≡ 3
 unfolding row bit_at bit size
 three = refl
 
-start-counts : lowest_from (bit_at row) 2 ≡ At 2
+start-counts : lowest_from (bit_at row) 2 ≡ Some 2
 unfolding row bit_at bit lowest_from first_of
 start-counts = refl
 
-far : lowest_from (bit_at row) 3 ≡ At 255
+far : lowest_from (bit_at row) 3 ≡ Some 255
 unfolding row bit_at bit lowest_from first_of
 far = refl
 
-past_all : lowest_from (bit_at row) 256 ≡ Nothing
+past_all : lowest_from (bit_at row) 256 ≡ None
 unfolding row bit_at bit lowest_from first_of
 past_all = refl
 

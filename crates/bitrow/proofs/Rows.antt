@@ -11,6 +11,7 @@ use lib.Bits.{bit_and, bit_or, or_add_and, and_le_l, and_le_r}
 use lib.Count.{ones, count_trailing_zeros}
 use lib.Pow.{pow_pos, shr_le}
 use lib.Dec.{eqb}
+use lib.Pointwise.{pointwise, bytes_decides}
 use lib.ListN.{length, get_or, set, get_or-eq_default}
 use lib.Seq.{get_or-set_same, get_or-set_other, ext_get_or}
 use borrow.Author.Tests.{eq-eqb, ne_eqb, eqb-true, not-true}
@@ -201,32 +202,13 @@ empty-row r p =
     zeros : ((k : ℕ) → k < 4 → get_or r k 0 ≡ 0) → joined r ≡ 0
     zeros z = ap₂ bit_or (ap₂ bit_or (ap₂ bit_or (z 0 (omega arith)) (z 1 (omega arith))) (z 2 (omega arith))) (z 3 (omega arith))
 
--- `a[k] == b[k]`, and so for each k
-abbrev same_word : List ℕ → List ℕ → ℕ → Bool
-same_word a b k = eqb (get_or a k 0) (get_or b k 0)
-
-abbrev pub words_same : List ℕ → List ℕ → Bool
-words_same a b = same_word a b 0 && same_word a b 1 && same_word a b 2 && same_word a b 3
-
-pub equal-row : (a b : List ℕ) → Row a → Row b → words_same a b ≡ equal (bit_at a) (bit_at b)
+-- `a == b` of arrays
+pub equal-row : (a b : List ℕ) → Row a → Row b → pointwise eqb a b ≡ equal (bit_at a) (bit_at b)
 equal-row a b p q =
-    same_test (words_same a b) (equal (bit_at a) (bit_at b))
-    (λ e. ap (λ (r : List ℕ). equal (bit_at a) (bit_at r)) (sym (whole e)) ∙ equal-self (bit_at a))
-    (λ e. all (row-ext a b p q (equal-in (bit_at a) (bit_at b) e)))
-  where
-    whole : words_same a b ≡ true → a ≡ b
-    whole e =
-        let x = (and-eq-true_iff (same_word a b 0 && same_word a b 1 && same_word a b 2) (same_word a b 3)).0 e in
-        let y = (and-eq-true_iff (same_word a b 0 && same_word a b 1) (same_word a b 2)).0 x.0 in
-        let z = (and-eq-true_iff (same_word a b 0) (same_word a b 1)).0 y.0 in
-        let each = four-words (λ k. same_word a b k ≡ true) z.0 z.1 y.1 x.1 in
-        ext_get_or 0 a b (p.four ∙ sym q.four) (λ k h. eqb-true (get_or a k 0) (get_or b k 0) (each k (omega (arith, p.four))))
-
-    word : a ≡ b → (k : ℕ) → same_word a b k ≡ true
-    word e k = eq-eqb (get_or a k 0) (get_or b k 0) (ap (λ (r : List ℕ). get_or r k 0) e)
-
-    all : a ≡ b → words_same a b ≡ true
-    all e = simp (word e)
+    let words = bytes_decides a b in
+    same_test (pointwise eqb a b) (equal (bit_at a) (bit_at b))
+    (λ e. ap (λ (r : List ℕ). equal (bit_at a) (bit_at r)) (sym (words.0 e)) ∙ equal-self (bit_at a))
+    (λ e. words.1 (row-ext a b p q (equal-in (bit_at a) (bit_at b) e)))
 
 -- ---- counting
 

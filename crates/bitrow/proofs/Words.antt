@@ -224,12 +224,9 @@ lowest-off (suc n) w h p i = step (count_trailing_zeros n (w / 2)) (lowest-off n
         ap (λ x. bit w (suc j) && x) (sym (bit-half (w - 1) j) ∙ ap (λ x. bit x j) half ∙ bit-half w j) ∙ and_self (bit w (suc j))
         ∙ sym (ap (λ x. not x && bit w (suc j)) (eqb-suc-zero j))
 
--- the count of zeros fits a word, and so does a place that far past a bit's
+-- the count of zeros fits a word
 pub zeros-fit : (w : ℕ) → Fits w64 (count_trailing_zeros 64 w)
 zeros-fit w = omega (arith, trailing_le 64 w)
-
-pub found-fits : (i w : ℕ) → i < 256 → Fits w64 (i + count_trailing_zeros 64 w)
-found-fits i w h = omega (arith, trailing_le 64 w)
 
 -- `count_ones` counts the bits
 pub ones-size : (n w : ℕ) → w < 2 ^ n → ones w ≡ size (bit w) n

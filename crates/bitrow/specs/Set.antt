@@ -1,7 +1,5 @@
 -- Sets of numbers, each as the test of what is in it.
-use Rattle.std.specs.Prelude.{◌≡◌, Bool, true, false, not, ◌&&◌, ◌||◌, cond, ℕ, zero, suc, ◌+◌, ◌-◌, ◌≤◌, ◌<◌, eqb, ltb, leb}
-use Rattle.bitrow.specs.declared.Found.{Found}
-use Rattle.bitrow.specs.declared.Found.TheVariants.{At, Nothing}
+use Rattle.std.specs.Prelude.{◌≡◌, Bool, true, false, not, ◌&&◌, ◌||◌, cond, ℕ, zero, suc, ◌+◌, ◌-◌, ◌≤◌, ◌<◌, eqb, ltb, leb, Option, Some, None}
 
 unfoldable pub nothing : ℕ → Bool
 nothing j = false
@@ -70,12 +68,12 @@ size s (suc n) = size s n + one (s n)
 -- ---- searches
 
 -- the first of the n numbers i, i + 1, .. that is in s
-unfoldable pub first_of : (ℕ → Bool) → ℕ → ℕ → Found
-first_of s i zero = Nothing
-first_of s i (suc n) = let rest = first_of s (i + 1) n in cond (s i) (At i) rest
+unfoldable pub first_of : (ℕ → Bool) → ℕ → ℕ → Option ℕ
+first_of s i zero = None
+first_of s i (suc n) = let rest = first_of s (i + 1) n in cond (s i) (Some i) rest
 
 -- the lowest number of s from i on and below 256
-unfoldable pub lowest_from : (ℕ → Bool) → ℕ → Found
+unfoldable pub lowest_from : (ℕ → Bool) → ℕ → Option ℕ
 lowest_from s i = first_of s i (256 - i)
 
 -- j is the lowest number of s from i on, and it is below n
@@ -86,6 +84,6 @@ pub record Lowest (s : ℕ → Bool) (i n j : ℕ) : Type 0 where
   pub before : (k : ℕ) → i ≤ k → k < j → s k ≡ false
 
 -- what a search of s from i on and below n has to answer
-abbrev pub Finds : (ℕ → Bool) → ℕ → ℕ → Found → Type 0
-Finds s i n (At j) = Lowest s i n j
-Finds s i n Nothing = (k : ℕ) → i ≤ k → k < n → s k ≡ false
+abbrev pub Finds : (ℕ → Bool) → ℕ → ℕ → Option ℕ → Type 0
+Finds s i n (Some j) = Lowest s i n j
+Finds s i n None = (k : ℕ) → i ≤ k → k < n → s k ≡ false

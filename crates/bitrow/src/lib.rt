@@ -6,13 +6,6 @@ ghost use Rattle.std.specs.Int.Count.{count_trailing_zeros};
 ghost use Rattle.bitrow.specs.Bit.{bit};
 ghost use Rattle.bitrow.specs.Set.{insert, remove};
 
-// What a search for a number of a set finds.
-#[derive(Clone, Copy)]
-pub enum Found {
-    At(usize),
-    Nothing,
-}
-
 // Whether i is in a row, by that row's word i / 64 alone.
 pub fn bit_of(word: u64, i: usize) -> bool
     ensures { result ≡ bit word (i % 64) }

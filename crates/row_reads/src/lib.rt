@@ -5,8 +5,6 @@ ghost use Rattle.std.specs.Prelude.{◌≡◌};
 ghost use Rattle.bitrow.specs.Bit.{bit_at};
 ghost use Rattle.bitrow.specs.Set.{size, lowest_from};
 
-use bitrow::Found;
-
 pub fn count(row: [u64; 4]) -> u32
     ensures { result ≡ size (bit_at row) 256 }
 {
@@ -17,18 +15,16 @@ pub fn count(row: [u64; 4]) -> u32
 }
 
 // The lowest number of the row at or above i.
-pub fn next_from(row: [u64; 4], i: usize) -> Found
+// Kept: the `as`, since no `From` makes a `usize` of the `u32` that `trailing_zeros` gives.
+pub fn next_from(row: [u64; 4], i: usize) -> Option<usize>
     ensures { result ≡ lowest_from (bit_at row) i }
 {
-    let mut at = i;
-    while at < 256 {
-        let w = row[at / 64] >> (at % 64);
-        if w > 0 {
-            let zeros = u64::trailing_zeros(w) as usize;
-            let found = at + zeros;
-            return Found::At(found);
+    for k in i / 64..4 {
+        let from = i.max(64 * k);
+        let rest = row[k] >> (from % 64);
+        if rest > 0 {
+            return Some(from + rest.trailing_zeros() as usize);
         }
-        at = (at / 64 + 1) * 64;
     }
-    Found::Nothing
+    None
 }

@@ -24,22 +24,15 @@ fn low_bits(n: usize) -> u64
     if n < 64 { (1u64 << n) - 1 } else { u64::MAX }
 }
 
-// i - n, or 0 where n is above i.
-fn saturating_sub(i: usize, n: usize) -> usize
-    ensures { result ≡ i - n }
-{
-    if n < i { i - n } else { 0 }
-}
-
 // The numbers below i.
 fn below(i: usize) -> [u64; 4]
     ensures { bit_at result ≡ meet (under i) (under 256) }
 {
     [
         low_bits(i),
-        low_bits(saturating_sub(i, 64)),
-        low_bits(saturating_sub(i, 128)),
-        low_bits(saturating_sub(i, 192)),
+        low_bits(i.saturating_sub(64)),
+        low_bits(i.saturating_sub(128)),
+        low_bits(i.saturating_sub(192)),
     ]
 }
 

@@ -1,0 +1,2 @@
+-- What the contracts of `row_members` cite.
+pub mod Steps
