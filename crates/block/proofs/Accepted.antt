@@ -8,12 +8,10 @@ use Prim.Native.Nat.{ℕ}
 use borrow.Author.Tests.{eq-eqb, ne_eqb}
 use lib.Dec.{eqb}
 use lib.ListN.{length}
-use Rattle.block.specs.declared.Fault.TheVariants.{Nowhere}
-use Rattle.block.specs.declared.Tested.{Tested}
-use Rattle.block.specs.declared.Tested.TheVariants.{Passed}
+use Rattle.std.specs.Prelude.{None, Result, Ok, ⊤, is_none}
+use Rattle.block.specs.declared.Refusal.{Refusal}
 use Rattle.block.specs.Entry.{Settings, Entry, container, policy}
 use Rattle.block.specs.Bytes.{byte_at, number_at, checksum}
-use Rattle.block.specs.Fault.{clear}
 use Rattle.block.specs.Refusal.{first_refusal, accepted, read_unless}
 use Rattle.block.specs.Reader.{within, range_faults, order_faults, unused_fault, container_layout, policy_layout, is_container, layout_of, container_said, policy_said, entry_said, settings_fault, settings_said, settings_checks, entry_checks, read_settings, read_entry, AcceptedAs}
 use Rattle.block.specs.Written.{valid_entry, valid_settings}
@@ -26,8 +24,8 @@ pub record SettingsRead (b : List ℕ) (s : Settings) : Type 0 where
   pub long : length b ≡ 512
   pub checked : number_at b 510 ≡ checksum b
   pub kind : byte_at b 0 ≡ 83
-  pub ranges : settings_fault b ≡ Nowhere
-  pub unused : unused_fault b (record { from = 3; to = 4 } ∷ record { from = 6; to = 510 } ∷ []) ≡ Nowhere
+  pub ranges : settings_fault b ≡ None
+  pub unused : unused_fault b (record { from = 3; to = 4 } ∷ record { from = 6; to = 510 } ∷ []) ≡ None
   pub says : s ≡ settings_said b
 
 pub settings-accepted : (b : List ℕ) (s : Settings) → (read_settings b ≡ accepted s) ↔ SettingsRead b s
@@ -49,10 +47,10 @@ pub record EntryRead (b : List ℕ) (e : Entry) : Type 0 where
   pub long : length b ≡ 512
   pub checked : number_at b 510 ≡ checksum b
   pub kind : (is_container b || eqb (byte_at b 0) 80) ≡ true
-  pub limits : (layout_of b).limits ≡ Nowhere
-  pub ranges : range_faults b (layout_of b).runs ≡ Nowhere
-  pub orders : order_faults b (layout_of b).runs ≡ Nowhere
-  pub unused : unused_fault b (layout_of b).unused ≡ Nowhere
+  pub limits : (layout_of b).limits ≡ None
+  pub ranges : range_faults b (layout_of b).runs ≡ None
+  pub orders : order_faults b (layout_of b).runs ≡ None
+  pub unused : unused_fault b (layout_of b).unused ≡ None
   pub says : e ≡ entry_said b
 
 pub entry-accepted : (s : Settings) (b : List ℕ) (e : Entry) → (read_entry s b ≡ accepted e) ↔ EntryRead b e
@@ -76,30 +74,30 @@ and-left-comm true b c = refl
 and-left-comm false b c = sym (and-false b)
 
 module _ (s : Settings) (b : List ℕ) where
-  by_kind : (t : Bool) → let l = cond t (container_layout b) (policy_layout b) in (clear l.limits && (clear (range_faults b l.runs) && clear (order_faults b l.runs))) ≡ ((t || within 1 2 (byte_at b 1)) && valid_entry s (cond t (container (container_said b)) (policy (policy_said b))))
+  by_kind : (t : Bool) → let l = cond t (container_layout b) (policy_layout b) in (is_none l.limits && (is_none (range_faults b l.runs) && is_none (order_faults b l.runs))) ≡ ((t || within 1 2 (byte_at b 1)) && valid_entry s (cond t (container (container_said b)) (policy (policy_said b))))
   unfolding container_layout policy_layout container_said policy_said valid_entry
   by_kind true = simp (clear-unless, clear-or_else, and-true, valid-clear)
   by_kind false = simp (clear-unless, clear-or_else, and-true, valid-clear, false-or, and_assoc, and_comm, and-left-comm)
 
-  pub entry-clear : (clear (layout_of b).limits && (clear (range_faults b (layout_of b).runs) && clear (order_faults b (layout_of b).runs))) ≡ ((is_container b || within 1 2 (byte_at b 1)) && valid_entry s (entry_said b))
+  pub entry-clear : (is_none (layout_of b).limits && (is_none (range_faults b (layout_of b).runs) && is_none (order_faults b (layout_of b).runs))) ≡ ((is_container b || within 1 2 (byte_at b 1)) && valid_entry s (entry_said b))
   unfolding layout_of entry_said
   entry-clear = by_kind (is_container b)
 
-pub settings-clear : (b : List ℕ) → clear (settings_fault b) ≡ valid_settings (settings_said b)
+pub settings-clear : (b : List ℕ) → is_none (settings_fault b) ≡ valid_settings (settings_said b)
 unfolding settings_fault settings_said valid_settings
 settings-clear b = simp (clear-unless, clear-or_else)
 
 pub settings-valid : (b : List ℕ) (s : Settings) → read_settings b ≡ accepted s → valid_settings s ≡ true
 settings-valid b s e =
     let r = (settings-accepted b s).0 e in
-    ap valid_settings r.says ∙ sym (settings-clear b) ∙ ap clear r.ranges
+    ap valid_settings r.says ∙ sym (settings-clear b) ∙ ap is_none r.ranges
 
 module _ (s : Settings) (b : List ℕ) (e : Entry) (q : AcceptedAs s b e) where
   entry-passes : ((is_container b || within 1 2 (byte_at b 1)) ≡ true) × (valid_entry s (entry_said b) ≡ true)
   entry-passes =
       let r = (entry-accepted s b e).0 q in
       let l = layout_of b in
-      let c : (clear l.limits && (clear (range_faults b l.runs) && clear (order_faults b l.runs))) ≡ true = rw (r.limits, r.ranges, r.orders) in
+      let c : (is_none l.limits && (is_none (range_faults b l.runs) && is_none (order_faults b l.runs))) ≡ true = rw (r.limits, r.ranges, r.orders) in
       (and-eq-true_iff (is_container b || within 1 2 (byte_at b 1)) (valid_entry s (entry_said b))).0 (sym (entry-clear s b) ∙ c)
 
   pub accepted-valid : valid_entry s e ≡ true
@@ -109,20 +107,20 @@ module _ (s : Settings) (b : List ℕ) (e : Entry) (q : AcceptedAs s b e) where
 
 module _ (s : Settings) (b : List ℕ) where
   -- the reading, by what the checks answer
-  pub entry_read : (t : Tested) → first_refusal (entry_checks s b) ≡ t → read_entry s b ≡ read_unless t (entry_said b)
+  pub entry_read : (t : Result ⊤ Refusal) → first_refusal (entry_checks s b) ≡ t → read_entry s b ≡ read_unless t (entry_said b)
   unfolding read_entry
-  entry_read t e = ap (λ (z : Tested). read_unless z (entry_said b)) e
+  entry_read t e = ap (λ (z : Result ⊤ Refusal). read_unless z (entry_said b)) e
 
-  pub passed-long : first_refusal (entry_checks s b) ≡ Passed → length b ≡ 512
-  passed-long e = ((entry-accepted s b (entry_said b)).0 (entry_read Passed e)).long
+  pub passed-long : first_refusal (entry_checks s b) ≡ Ok tt → length b ≡ 512
+  passed-long e = ((entry-accepted s b (entry_said b)).0 (entry_read (Ok tt) e)).long
 
-  pub accepted-container : first_refusal (entry_checks s b) ≡ Passed → byte_at b 0 ≡ 67 → AcceptedAs s b (container (container_said b))
+  pub accepted-container : first_refusal (entry_checks s b) ≡ Ok tt → byte_at b 0 ≡ 67 → AcceptedAs s b (container (container_said b))
   unfolding entry_said
-  accepted-container e k = entry_read Passed e ∙ ap accepted (simp (eq-eqb _ _ k))
+  accepted-container e k = entry_read (Ok tt) e ∙ ap accepted (simp (eq-eqb _ _ k))
 
-  pub accepted-policy : first_refusal (entry_checks s b) ≡ Passed → (byte_at b 0 ≡ 67 → ⊥) → AcceptedAs s b (policy (policy_said b))
+  pub accepted-policy : first_refusal (entry_checks s b) ≡ Ok tt → (byte_at b 0 ≡ 67 → ⊥) → AcceptedAs s b (policy (policy_said b))
   unfolding entry_said
-  accepted-policy e k = entry_read Passed e ∙ ap accepted (simp (ne_eqb _ _ k))
+  accepted-policy e k = entry_read (Ok tt) e ∙ ap accepted (simp (ne_eqb _ _ k))
 
   -- a policy's direction is one of the two
   pub policy-direction : AcceptedAs s b (policy (policy_said b)) → within 1 2 (byte_at b 1) ≡ true

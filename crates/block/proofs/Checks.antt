@@ -3,25 +3,44 @@ use mathlib.Core.Path.{◌≡◌, refl, ap, ◌∙◌}
 use mathlib.Core.Logic.{◌↔◌}
 use mathlib.Core.Bool.{Bool, true, false, and-eq-true_iff}
 use mathlib.Core.List.{List, [], ◌∷◌, ◌++◌}
-use Prim.Native.Nat.{ℕ, ◌≤◌}
+use Prim.Native.Nat.{ℕ, ◌≤◌, ◌<◌}
+use native.Mathlib.Omega.{arith}
 use borrow.Author.Tests.{leb-true, eqb-true, eq-eqb}
 use lib.Dec.{eqb, leb}
-use Rattle.block.specs.declared.Fault.{Fault}
-use Rattle.block.specs.declared.Fault.TheVariants.{Nowhere, At}
+use Rattle.std.specs.Prelude.{Option, None, Some, Result, Ok, Err, ⊤}
+use Rattle.std.specs.Option.{option_or}
+use Rattle.block.specs.declared.Reason.{Reason}
+use Rattle.block.specs.declared.Reason.TheVariants.{MemorySize, NotWellFormed, BlockLength, Checksum, Kind, Limit, Range, Order, Unused, BeyondTable, FreeSlot, TableFull, BufferLength, BatchLength}
 use Rattle.block.specs.declared.Refusal.{Refusal}
-use Rattle.block.specs.declared.Tested.{Tested}
-use Rattle.block.specs.declared.Tested.TheVariants.{Passed, Refused}
-use Rattle.block.specs.Fault.{unless, or_else}
-use Rattle.block.specs.Refusal.{Check, refuse, first_refusal, accepted, read_unless}
+use Rattle.block.specs.Fault.{unless}
+use Rattle.block.specs.Refusal.{reason_number, Check, refuse, first_refusal, accepted, read_unless}
 use Rattle.block.specs.Reader.{within}
+
+-- ---- no reason has the number 0
+
+pub reason-positive : (w : Reason) → 0 < reason_number w
+reason-positive MemorySize = omega arith
+reason-positive NotWellFormed = omega arith
+reason-positive BlockLength = omega arith
+reason-positive Checksum = omega arith
+reason-positive Kind = omega arith
+reason-positive Limit = omega arith
+reason-positive Range = omega arith
+reason-positive Order = omega arith
+reason-positive Unused = omega arith
+reason-positive BeyondTable = omega arith
+reason-positive FreeSlot = omega arith
+reason-positive TableFull = omega arith
+reason-positive BufferLength = omega arith
+reason-positive BatchLength = omega arith
 
 -- ---- one test
 
-pub unless-none : (t : Bool) (p : ℕ) → (unless t p ≡ Nowhere) ↔ (t ≡ true)
+pub unless-none : (t : Bool) (p : ℕ) → (unless t p ≡ None) ↔ (t ≡ true)
 unless-none true p = (λ e. refl, λ e. refl)
 unless-none false p = (λ e. cc, λ e. cc)
 
-pub equal-none : (m n p : ℕ) → (unless (eqb m n) p ≡ Nowhere) ↔ (m ≡ n)
+pub equal-none : (m n p : ℕ) → (unless (eqb m n) p ≡ None) ↔ (m ≡ n)
 equal-none m n p = (λ e. eqb-true m n ((unless-none (eqb m n) p).0 e), λ e. (unless-none (eqb m n) p).1 (eq-eqb m n e))
 
 pub within-bounds : (low high x : ℕ) → within low high x ≡ true → (low ≤ x) × (x ≤ high)
@@ -32,46 +51,44 @@ within-bounds low high x e =
 
 -- ---- two faults
 
-pub or_else-none : (f g : Fault) → or_else f g ≡ Nowhere → (f ≡ Nowhere) × (g ≡ Nowhere)
-or_else-none Nowhere g e = (refl, e)
-or_else-none (At p) g e = (cc, cc)
+pub or_else-none : (f g : Option ℕ) → option_or f g ≡ None → (f ≡ None) × (g ≡ None)
+or_else-none None g e = (refl, e)
+or_else-none (Some p) g e = (cc, cc)
 
-pub or_else-nowhere : (f : Fault) → or_else f Nowhere ≡ f
-or_else-nowhere Nowhere = refl
-or_else-nowhere (At p) = refl
-
--- ---- equals for equals, in what code hands on
-
-pub unless-same : (f : Fault) (t s : Bool) (p : ℕ) → f ≡ unless t p → t ≡ s → f ≡ unless s p
-unless-same f t s p e h = cc
-
-pub or_else-same : (r f g x y : Fault) → r ≡ or_else f g → f ≡ x → g ≡ y → r ≡ or_else x y
-or_else-same r f g x y e h k = cc
-
-pub refuse-same : (n : ℕ) (t : Tested) (f x : Fault) (p q : Tested) → t ≡ refuse n f p → f ≡ x → p ≡ q → t ≡ refuse n x q
-refuse-same n t f x p q e h k = cc
+pub or_else-nowhere : (f : Option ℕ) → option_or f None ≡ f
+or_else-nowhere None = refl
+or_else-nowhere (Some p) = refl
 
 -- ---- a list of checks
 
 -- every check finds no fault
 abbrev pub Clear : List Check → Type 0
 Clear [] = Unit {0}
-Clear (c ∷ cs) = (c.fault ≡ Nowhere) × Clear cs
+Clear (c ∷ cs) = (c.fault ≡ None) × Clear cs
 
-refuse-passed : (n : ℕ) (f : Fault) (rest : Tested) → (refuse n f rest ≡ Passed) ↔ ((f ≡ Nowhere) × (rest ≡ Passed))
-refuse-passed n Nowhere rest = (λ e. (refl, e), λ e. e.1)
-refuse-passed n (At p) rest = (λ e. (cc, cc), λ e. cc)
+refuse-passed : (w : Reason) (f : Option ℕ) (rest : Result ⊤ Refusal) → (refuse w f rest ≡ Ok tt) ↔ ((f ≡ None) × (rest ≡ Ok tt))
+refuse-passed w None rest = (λ e. (refl, e), λ e. e.1)
+refuse-passed w (Some p) rest = (λ e. (cc, cc), λ e. cc)
 
-pub passed-clear : (cs : List Check) → (first_refusal cs ≡ Passed) ↔ Clear cs
+-- a check answered by itself: what it lets through goes on to the checks after it, and its refusal stands before them
+pub refuse-past : (w : Reason) (f : Option ℕ) (rest : Result ⊤ Refusal) → refuse w f (Ok tt) ≡ Ok tt → refuse w f rest ≡ rest
+refuse-past w None rest e = refl
+refuse-past w (Some p) rest e = cc
+
+pub refuse-stops : (w : Reason) (f : Option ℕ) (rest : Result ⊤ Refusal) (r : Refusal) → refuse w f (Ok tt) ≡ Err r → refuse w f rest ≡ Err r
+refuse-stops w None rest r e = cc
+refuse-stops w (Some p) rest r e = e
+
+pub passed-clear : (cs : List Check) → (first_refusal cs ≡ Ok tt) ↔ Clear cs
 passed-clear [] = (λ e. tt, λ c. refl)
 passed-clear (c ∷ cs) =
-    let h = refuse-passed c.number c.fault (first_refusal cs) in
+    let h = refuse-passed c.reason c.fault (first_refusal cs) in
     (λ e. ((h.0 e).0, (passed-clear cs).0 (h.0 e).1), λ d. h.1 (d.0, (passed-clear cs).1 d.1))
 
 module _ {A : Type 0} where
-  accepted-passed : (t : Tested) (x y : A) → (read_unless t x ≡ accepted y) ↔ ((t ≡ Passed) × (x ≡ y))
-  accepted-passed Passed x y = (λ e. (refl, cc), λ h. ap accepted h.1)
-  accepted-passed (Refused r) x y = (λ e. (cc, cc), λ h. cc)
+  accepted-passed : (t : Result ⊤ Refusal) (x y : A) → (read_unless t x ≡ accepted y) ↔ ((t ≡ Ok tt) × (x ≡ y))
+  accepted-passed (Ok tt) x y = (λ e. (refl, cc), λ h. ap accepted h.1)
+  accepted-passed (Err r) x y = (λ e. (cc, cc), λ h. cc)
 
   pub accepted-clear : (cs : List Check) (x y : A) → (read_unless (first_refusal cs) x ≡ accepted y) ↔ (Clear cs × (x ≡ y))
   accepted-clear cs x y =
@@ -80,16 +97,16 @@ module _ {A : Type 0} where
 
 -- ---- the checks of one list, then those of another
 
-pub append-passed : (xs ys : List Check) → first_refusal xs ≡ Passed → first_refusal (xs ++ ys) ≡ first_refusal ys
+pub append-passed : (xs ys : List Check) → first_refusal xs ≡ Ok tt → first_refusal (xs ++ ys) ≡ first_refusal ys
 append-passed [] ys e = refl
 append-passed (x ∷ xs) ys e =
-    let s = (refuse-passed x.number x.fault (first_refusal xs)).0 e in
-    ap (λ (f : Fault). refuse x.number f (first_refusal (xs ++ ys))) s.0 ∙ append-passed xs ys s.1
+    let s = (refuse-passed x.reason x.fault (first_refusal xs)).0 e in
+    ap (λ (f : Option ℕ). refuse x.reason f (first_refusal (xs ++ ys))) s.0 ∙ append-passed xs ys s.1
 
-pub append-refused : (xs ys : List Check) (r : Refusal) → first_refusal xs ≡ Refused r → first_refusal (xs ++ ys) ≡ Refused r
+pub append-refused : (xs ys : List Check) (r : Refusal) → first_refusal xs ≡ Err r → first_refusal (xs ++ ys) ≡ Err r
 append-refused [] ys r e = cc
 append-refused (x ∷ xs) ys r e = at x.fault e (append-refused xs ys r)
   where
-    at : (f : Fault) → refuse x.number f (first_refusal xs) ≡ Refused r → (first_refusal xs ≡ Refused r → first_refusal (xs ++ ys) ≡ Refused r) → refuse x.number f (first_refusal (xs ++ ys)) ≡ Refused r
-    at Nowhere h rest = rest h
-    at (At p) h rest = h
+    at : (f : Option ℕ) → refuse x.reason f (first_refusal xs) ≡ Err r → (first_refusal xs ≡ Err r → first_refusal (xs ++ ys) ≡ Err r) → refuse x.reason f (first_refusal (xs ++ ys)) ≡ Err r
+    at None h rest = rest h
+    at (Some p) h rest = h

@@ -9,8 +9,7 @@ use native.Mathlib.Nat.{eq-or-lt_of_le, mul-le-mul, mul-mod_right}
 use native.Mathlib.Omega.{arith}
 use borrow.Author.Tests.{ltb-true, ltb-false, eq-eqb}
 use lib.Dec.{ltb, eqb}
-use Rattle.block.specs.declared.Fault.{Fault}
-use Rattle.block.specs.declared.Fault.TheVariants.{Nowhere}
+use Rattle.std.specs.Prelude.{Option, None}
 use Rattle.block.specs.Fault.{unless, first_between}
 use Rattle.block.specs.Bytes.{byte_at, number_at, weighted, checksum}
 use Rattle.block.specs.Checksum.{Passes, OneByte, TwoBytes}
@@ -19,10 +18,10 @@ use Rattle.block.proofs.Weights.{even-below, over, same-weight}
 
 -- ---- 65521 is no product of a number below 256 and one up to 510
 
-divides : ℕ → Fault
+divides : ℕ → Option ℕ
 divides d = unless (not (eqb (65521 % d) 0)) d
 
-none-divides : first_between divides 2 256 ≡ Nowhere
+none-divides : first_between divides 2 256 ≡ None
 unfolding divides
 none-divides = refl
 

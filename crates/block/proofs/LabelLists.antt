@@ -8,32 +8,32 @@ use native.Mathlib.Omega.{arith}
 use lib.Dec.{leb}
 use lib.ListN.{length}
 use lib.Seq.{get_or-append-add}
-use Rattle.block.specs.declared.Fault.{Fault}
+use Rattle.std.specs.Prelude.{Option, is_none}
 use Rattle.block.specs.Entry.{Label}
-use Rattle.block.specs.Fault.{clear, first_from}
+use Rattle.block.specs.Fault.{first_from}
 use Rattle.block.specs.Bytes.{number_at}
 use Rattle.block.specs.Reader.{label_fault, range_fault, rise_fault, order_fault, label_at, labels_at}
 use Rattle.block.specs.Written.{number_bytes, label_bytes, in_range, all_in_range, rising_after, rising, valid_labels}
 use Rattle.block.proofs.Faults.{clear-unless, clear-or_else}
 
 -- a test over n positions, each 4 past the last, is the search for a fault over them
-module _ (f : ℕ → Fault) (test : ℕ → ℕ → Bool) (at : ℕ) where
-  by-fours : ((p : ℕ) → test p 0 ≡ true) → ((p n : ℕ) → test p (suc n) ≡ (clear (f p) && test (p + 4) n)) → (n i : ℕ) → clear (first_from (λ k. f (at + 4 * k)) i n) ≡ test (at + 4 * i) n
+module _ (f : ℕ → Option ℕ) (test : ℕ → ℕ → Bool) (at : ℕ) where
+  by-fours : ((p : ℕ) → test p 0 ≡ true) → ((p n : ℕ) → test p (suc n) ≡ (is_none (f p) && test (p + 4) n)) → (n i : ℕ) → is_none (first_from (λ k. f (at + 4 * k)) i n) ≡ test (at + 4 * i) n
   by-fours z s zero i = sym (z (at + 4 * i))
   by-fours z s (suc n) i =
       let q : at + 4 * i + 4 ≡ at + 4 * (i + 1) = omega arith in
       simp (s, clear-or_else, q, by-fours z s n (i + 1))
 
 module _ (b : List ℕ) where
-  label-clear : (p : ℕ) → clear (label_fault b p) ≡ in_range (label_at b p)
+  label-clear : (p : ℕ) → is_none (label_fault b p) ≡ in_range (label_at b p)
   unfolding label_fault in_range label_at
   label-clear p = simp (clear-or_else, clear-unless)
 
-  range_clear : (at n : ℕ) → clear (range_fault b at n) ≡ all_in_range (labels_at b at n)
+  range_clear : (at n : ℕ) → is_none (range_fault b at n) ≡ all_in_range (labels_at b at n)
   unfolding range_fault
   range_clear at n = rw sub-zero (by-fours (label_fault b) (λ p m. all_in_range (labels_at b p m)) at (λ p. refl) (λ p m. rw label-clear) n 0 ∙ rw add-zero)
 
-  order-clear : (at n : ℕ) → clear (order_fault b at n) ≡ rising (labels_at b at n)
+  order-clear : (at n : ℕ) → is_none (order_fault b at n) ≡ rising (labels_at b at n)
   unfolding order_fault rise_fault label_at
   order-clear at zero = refl
   order-clear at (suc n) =
@@ -44,7 +44,7 @@ module _ (b : List ℕ) where
   length-labels-at p zero = refl
   length-labels-at p (suc n) = ap suc (length-labels-at (p + 4) n)
 
-  pub valid-clear : (limit at n : ℕ) → valid_labels limit (labels_at b at n) ≡ (leb n limit && (clear (range_fault b at n) && clear (order_fault b at n)))
+  pub valid-clear : (limit at n : ℕ) → valid_labels limit (labels_at b at n) ≡ (leb n limit && (is_none (range_fault b at n) && is_none (order_fault b at n)))
   unfolding valid_labels
   valid-clear limit at n = simp (length-labels-at, range_clear, order-clear)
 

@@ -7,7 +7,7 @@ use native.Mathlib.Omega.{arith}
 use borrow.Author.Tests.{eq-eqb}
 use lib.ListN.{length, replicate, length-append, length-replicate, get_or-append}
 use lib.Seq.{get_or-append-add}
-use Rattle.block.specs.declared.Fault.TheVariants.{Nowhere}
+use Rattle.std.specs.Prelude.{None}
 use Rattle.block.specs.Bytes.{byte_at, number_at, weighted, checksum}
 use Rattle.block.specs.Reader.{zero_fault}
 use Rattle.block.specs.Written.{number_bytes, sealed}
@@ -72,6 +72,6 @@ module _ (front : List ℕ) (h : length front ≤ 510) where
   unfolding sealed checksum
   sealed-checked = whole-number front 510 (checksum (filled 510 front)) h ∙ ap (λ (m : ℕ). m % 65521) (sym (whole-weight front 510 (checksum (filled 510 front)) h))
 
-  pub sealed-unused : (from : ℕ) → length front ≤ from → zero_fault (sealed front) from 510 ≡ Nowhere
+  pub sealed-unused : (from : ℕ) → length front ≤ from → zero_fault (sealed front) from 510 ≡ None
   unfolding sealed zero_fault
   sealed-unused from l = faults-all _ from 510 (λ k m o. rw (eq-eqb _ 0 (past-front front 510 (checksum (filled 510 front)) h k (omega arith) o)))

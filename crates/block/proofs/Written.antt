@@ -8,8 +8,10 @@ use native.Mathlib.Omega.{arith}
 use borrow.Author.Tests.{leb-true}
 use lib.Dec.{eqb, leb}
 use lib.ListN.{length, length-append}
-use Rattle.block.specs.declared.Fault.TheVariants.{Nowhere}
-use Rattle.block.specs.Entry.{Label, Direction, ingress, egress, Policy, Settings, Entry, container, policy}
+use Rattle.block.specs.declared.Direction.{Direction}
+use Rattle.block.specs.declared.Direction.TheVariants.{Ingress as ingress, Egress as egress}
+use Rattle.std.specs.Prelude.{None}
+use Rattle.block.specs.Entry.{Label, Policy, Settings, Entry, container, policy}
 use Rattle.block.specs.Bytes.{byte_at}
 use Rattle.block.specs.Reader.{within, zero_fault, unused_fault, is_container, layout_of, container_layout, policy_layout, direction_of, container_said, policy_said, entry_said, settings_said, read_settings, read_entry}
 use Rattle.block.specs.Refusal.{accepted}
@@ -50,7 +52,7 @@ short : (limit : ℕ) (ls : List Label) → valid_labels limit ls ≡ true → l
 unfolding valid_labels
 short limit ls v = leb-true (length ls) limit ((and-eq-true_iff (leb (length ls) limit) _).0 v).0
 
-reads : (s : Settings) (e : Entry) (front : List ℕ) → let b = sealed front in length front ≤ 510 → entry_said b ≡ e → valid_entry s e ≡ true → (is_container b || eqb (byte_at b 0) 80) ≡ true → (is_container b || within 1 2 (byte_at b 1)) ≡ true → unused_fault b (layout_of b).unused ≡ Nowhere → EntryRead b e
+reads : (s : Settings) (e : Entry) (front : List ℕ) → let b = sealed front in length front ≤ 510 → entry_said b ≡ e → valid_entry s e ≡ true → (is_container b || eqb (byte_at b 0) 80) ≡ true → (is_container b || within 1 2 (byte_at b 1)) ≡ true → unused_fault b (layout_of b).unused ≡ None → EntryRead b e
 reads s e front h q v k d u =
     let c = entry-clear s (sealed front) ∙ (and-eq-true_iff _ _).1 (d, ap (valid_entry s) q ∙ v) in
     let l = (and-eq-true_iff _ _).0 c in
@@ -62,11 +64,11 @@ unfolding within
 direction-number ingress = refl
 direction-number egress = refl
 
-zero-at-3 : (x y z : ℕ) (rest : List ℕ) → zero_fault (x ∷ y ∷ z ∷ 0 ∷ rest) 3 4 ≡ Nowhere
+zero-at-3 : (x y z : ℕ) (rest : List ℕ) → zero_fault (x ∷ y ∷ z ∷ 0 ∷ rest) 3 4 ≡ None
 unfolding zero_fault
 zero-at-3 x y z rest = refl
 
-zero-at-2 : (x y : ℕ) (rest : List ℕ) → zero_fault (x ∷ y ∷ 0 ∷ 0 ∷ rest) 2 4 ≡ Nowhere
+zero-at-2 : (x y : ℕ) (rest : List ℕ) → zero_fault (x ∷ y ∷ 0 ∷ 0 ∷ rest) 2 4 ≡ None
 unfolding zero_fault
 zero-at-2 x y rest = refl
 

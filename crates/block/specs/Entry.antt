@@ -1,5 +1,6 @@
 -- What a block can say.
 use Rattle.std.specs.Prelude.{List, ℕ}
+use Rattle.block.specs.declared.Direction.{Direction}
 
 -- "A label is a key (1 to 64) and a value (1 to 65535)."
 pub record Label : Type 0 where
@@ -9,10 +10,6 @@ pub record Label : Type 0 where
 -- "A label list is in strictly rising order of key."
 abbrev pub Container : Type 0
 Container = List Label
-
--- "A policy is ingress or egress."
-pub data Direction : Type 0 where
-  ingress egress : Direction
 
 pub record Policy : Type 0 where
   pub direction : Direction

@@ -1,34 +1,23 @@
--- Where a test finds fault first.
-use Rattle.std.specs.Prelude.{Bool, true, false, List, [], ◌∷◌, ℕ, zero, suc, ◌+◌, ◌-◌}
-use Rattle.block.specs.declared.Fault.{Fault}
-use Rattle.block.specs.declared.Fault.TheVariants.{Nowhere, At}
+-- Where a test finds fault first, if anywhere.
+use Rattle.std.specs.Prelude.{Bool, true, false, List, [], ◌∷◌, ℕ, zero, suc, ◌+◌, ◌-◌, Option, None, Some}
+use Rattle.std.specs.Option.{option_or}
 
 -- a fault at position p, unless the test holds
-abbrev pub unless : Bool → ℕ → Fault
-unless true p = Nowhere
-unless false p = At p
-
--- whether there is no fault
-abbrev pub clear : Fault → Bool
-clear Nowhere = true
-clear (At p) = false
-
--- the first fault if there is one, else the second
-abbrev pub or_else : Fault → Fault → Fault
-or_else Nowhere rest = rest
-or_else (At p) rest = At p
+abbrev pub unless : Bool → ℕ → Option ℕ
+unless true p = None
+unless false p = Some p
 
 -- the first fault among f i, f (i + 1), .., n of them
-abbrev pub first_from : (ℕ → Fault) → ℕ → ℕ → Fault
-first_from f i zero = Nowhere
-first_from f i (suc n) = or_else (f i) (first_from f (i + 1) n)
+abbrev pub first_from : (ℕ → Option ℕ) → ℕ → ℕ → Option ℕ
+first_from f i zero = None
+first_from f i (suc n) = option_or (f i) (first_from f (i + 1) n)
 
 -- the first fault among f i for from ≤ i < to
-abbrev pub first_between : (ℕ → Fault) → ℕ → ℕ → Fault
+abbrev pub first_between : (ℕ → Option ℕ) → ℕ → ℕ → Option ℕ
 first_between f from to = first_from f from (to - from)
 
 module _ {A : Type 0} where
   -- the first fault that f finds in a list
-  abbrev pub first_in : (A → Fault) → List A → Fault
-  first_in f [] = Nowhere
-  first_in f (x ∷ xs) = or_else (f x) (first_in f xs)
+  abbrev pub first_in : (A → Option ℕ) → List A → Option ℕ
+  first_in f [] = None
+  first_in f (x ∷ xs) = option_or (f x) (first_in f xs)

@@ -1,9 +1,12 @@
 -- The readers of blocks: refusals 3 to 9, and what an accepted block says.
-use Rattle.std.specs.Prelude.{◌≡◌, Bool, ◌&&◌, ◌||◌, cond, List, [], ◌∷◌, ◌++◌, ℕ, zero, suc, ◌+◌, ◌-◌, ◌*◌, eqb, leb, ltb, length}
-use Rattle.block.specs.declared.Fault.{Fault}
-use Rattle.block.specs.Entry.{Label, Container, Direction, ingress, egress, Policy, Settings, Entry, container, policy}
+use Rattle.block.specs.declared.Direction.{Direction}
+use Rattle.block.specs.declared.Direction.TheVariants.{Ingress as ingress, Egress as egress}
+use Rattle.std.specs.Prelude.{◌≡◌, Bool, ◌&&◌, ◌||◌, cond, List, [], ◌∷◌, ◌++◌, ℕ, zero, suc, ◌+◌, ◌-◌, ◌*◌, eqb, leb, ltb, length, Option}
+use Rattle.std.specs.Option.{option_or}
+use Rattle.block.specs.declared.Reason.TheVariants.{BlockLength, Checksum, Kind, Limit, Range, Order, Unused}
+use Rattle.block.specs.Entry.{Label, Container, Policy, Settings, Entry, container, policy}
 use Rattle.block.specs.Bytes.{byte_at, number_at, checksum}
-use Rattle.block.specs.Fault.{unless, or_else, first_between, first_in}
+use Rattle.block.specs.Fault.{unless, first_between, first_in}
 use Rattle.block.specs.Refusal.{Check, check, first_refusal, Read, accepted, read_unless}
 
 -- low ≤ x ≤ high
@@ -18,29 +21,29 @@ pub record Run : Type 0 where
   pub count : ℕ
 
 -- the label whose key stands at p: its key 1 to 64, its value 1 to 65535
-unfoldable pub label_fault : List ℕ → ℕ → Fault
+unfoldable pub label_fault : List ℕ → ℕ → Option ℕ
 label_fault b p =
-    or_else (unless (within 1 64 (number_at b p)) p)
+    option_or (unless (within 1 64 (number_at b p)) p)
     (unless (within 1 65535 (number_at b (p + 2))) (p + 2))
 
 -- the first key or value out of range, of n labels from `at`
-unfoldable pub range_fault : List ℕ → ℕ → ℕ → Fault
+unfoldable pub range_fault : List ℕ → ℕ → ℕ → Option ℕ
 range_fault b at n = first_between (λ k. label_fault b (at + 4 * k)) 0 n
 
 -- the key at p exceeds the key before it
-unfoldable pub rise_fault : List ℕ → ℕ → Fault
+unfoldable pub rise_fault : List ℕ → ℕ → Option ℕ
 rise_fault b p = unless (ltb (number_at b (p - 4)) (number_at b p)) p
 
 -- the first key that does not rise, of n labels from `at`
-unfoldable pub order_fault : List ℕ → ℕ → ℕ → Fault
+unfoldable pub order_fault : List ℕ → ℕ → ℕ → Option ℕ
 order_fault b at n = first_between (λ k. rise_fault b (at + 4 * k)) 1 n
 
 -- 7. "A key or a value, settings included, is outside its range above."
-abbrev pub range_faults : List ℕ → List Run → Fault
+abbrev pub range_faults : List ℕ → List Run → Option ℕ
 range_faults b rs = first_in (λ r. range_fault b r.start r.count) rs
 
 -- 8. "Within a container's list or a policy's part, a key does not exceed the key before it."
-abbrev pub order_faults : List ℕ → List Run → Fault
+abbrev pub order_faults : List ℕ → List Run → Option ℕ
 order_faults b rs = first_in (λ r. order_fault b r.start r.count) rs
 
 unfoldable pub label_at : List ℕ → ℕ → Label
@@ -54,25 +57,25 @@ labels_at b p (suc n) = label_at b p ∷ labels_at b (p + 4) n
 -- ---- unused bytes: "Bytes said here to be zero, and all to 509 that no field takes"
 
 -- Unused bytes: from one position up to before another.
-pub record Range : Type 0 where
+pub record Span : Type 0 where
   pub from : ℕ
   pub to : ℕ
 
 -- the first byte that is not zero
-unfoldable pub zero_fault : List ℕ → ℕ → ℕ → Fault
+unfoldable pub zero_fault : List ℕ → ℕ → ℕ → Option ℕ
 zero_fault b from to = first_between (λ i. unless (eqb (byte_at b i) 0) i) from to
 
 -- 9. "An unused byte before byte 510 is not zero."
-abbrev pub unused_fault : List ℕ → List Range → Fault
+abbrev pub unused_fault : List ℕ → List Span → Option ℕ
 unused_fault b us = first_in (λ u. zero_fault b u.from u.to) us
 
 -- ---- how an admission block is laid out
 
 pub record Layout : Type 0 where
   -- 6. "A label count is above its limit or a direction is neither 1 nor 2": the first field at fault
-  pub limits : Fault
+  pub limits : Option ℕ
   pub runs : List Run
-  pub unused : List Range
+  pub unused : List Span
 
 -- "Container: byte 0 is 67; byte 1 the number of labels, 0 to 8; bytes 2 and 3 zero; labels from byte 4."
 unfoldable pub container_layout : List ℕ → Layout
@@ -91,7 +94,7 @@ policy_layout b =
     let m = byte_at b 2 in
     let n = byte_at b 3 in
     record {
-      limits = or_else (unless (within 1 2 (byte_at b 1)) 1) (or_else (unless (leb m 4) 2) (unless (leb n 4) 3));
+      limits = option_or (unless (within 1 2 (byte_at b 1)) 1) (option_or (unless (leb m 4) 2) (unless (leb n 4) 3));
       runs = record { start = 4; count = m } ∷ record { start = 4 + 4 * m; count = n } ∷ [];
       unused = record { from = 4 + 4 * (m + n); to = 510 } ∷ [];
     }
@@ -120,12 +123,12 @@ entry_said b = cond (is_container b) (container (container_said b)) (policy (pol
 
 -- 7, of settings: "byte 1 the user key, 1 to 64; byte 2 the system key, 0 for none, else 1 to 64; bytes 4 and 5 the system
 -- value, 0 with system key 0, else 1 to 65535"
-unfoldable pub settings_fault : List ℕ → Fault
+unfoldable pub settings_fault : List ℕ → Option ℕ
 settings_fault b =
     let key = byte_at b 2 in
     let value = number_at b 4 in
-    or_else (unless (within 1 64 (byte_at b 1)) 1)
-    (or_else (unless (leb key 64) 2)
+    option_or (unless (within 1 64 (byte_at b 1)) 1)
+    (option_or (unless (leb key 64) 2)
     (unless (cond (eqb key 0) (eqb value 0) (within 1 65535 value)) 4))
 
 unfoldable pub settings_said : List ℕ → Settings
@@ -136,17 +139,17 @@ settings_said b = record { user_key = byte_at b 1; system_key = byte_at b 2; sys
 -- 3. "The block is not 512 bytes long." 4. "The stored check differs from the computed one."
 abbrev pub frame : List ℕ → List Check
 frame b =
-    check 3 (unless (eqb (length b) 512) 0)
-    ∷ check 4 (unless (eqb (number_at b 510) (checksum b)) 510)
+    check BlockLength (unless (eqb (length b) 512) 0)
+    ∷ check Checksum (unless (eqb (number_at b 510) (checksum b)) 510)
     ∷ []
 
 -- Open's block meets 3, 4, 5, 7, 9.
 unfoldable pub settings_checks : List ℕ → List Check
 settings_checks b =
     frame b
-    ++ (check 5 (unless (eqb (byte_at b 0) 83) 0)
-    ∷ check 7 (settings_fault b)
-    ∷ check 9 (unused_fault b (record { from = 3; to = 4 } ∷ record { from = 6; to = 510 } ∷ []))
+    ++ (check Kind (unless (eqb (byte_at b 0) 83) 0)
+    ∷ check Range (settings_fault b)
+    ∷ check Unused (unused_fault b (record { from = 3; to = 4 } ∷ record { from = 6; to = 510 } ∷ []))
     ∷ [])
 
 -- Admit's block meets 3 to 9. No check asks for the settings yet.
@@ -154,11 +157,11 @@ unfoldable pub entry_checks : Settings → List ℕ → List Check
 entry_checks s b =
     let l = layout_of b in
     frame b
-    ++ (check 5 (unless (is_container b || eqb (byte_at b 0) 80) 0)
-    ∷ check 6 l.limits
-    ∷ check 7 (range_faults b l.runs)
-    ∷ check 8 (order_faults b l.runs)
-    ∷ check 9 (unused_fault b l.unused)
+    ++ (check Kind (unless (is_container b || eqb (byte_at b 0) 80) 0)
+    ∷ check Limit l.limits
+    ∷ check Range (range_faults b l.runs)
+    ∷ check Order (order_faults b l.runs)
+    ∷ check Unused (unused_fault b l.unused)
     ∷ [])
 
 unfoldable pub read_settings : List ℕ → Read Settings

@@ -1,10 +1,10 @@
--- How the code holds settings, and what a reading of settings answers.
-use Rattle.std.specs.Prelude.{◌≡◌, List, ℕ}
+-- How the code holds settings, and what its readings of blocks answer.
+use Rattle.std.specs.Prelude.{Result, Ok, Err}
+use Rattle.block.specs.declared.Refusal.{Refusal}
 use Rattle.block.specs.declared.Settings.{Settings as SettingsWords}
-use Rattle.block.specs.declared.SettingsReading.{SettingsReading}
-use Rattle.block.specs.Entry.{Settings}
-use Rattle.block.specs.Refusal.{Read, refused, accepted, tested_of}
-use Rattle.block.specs.Reader.{read_settings}
+use Rattle.block.specs.declared.Sort.{Sort}
+use Rattle.block.specs.Entry.{Settings, Entry, container, policy}
+use Rattle.block.specs.Refusal.{Read, refused, accepted}
 
 unfoldable pub settings_words : Settings → SettingsWords
 settings_words s = record { user_key = s.user_key; system_key = s.system_key; system_value = s.system_value }
@@ -13,14 +13,17 @@ settings_words s = record { user_key = s.user_key; system_key = s.system_key; sy
 unfoldable pub settings_of : SettingsWords → Settings
 settings_of w = record { user_key = w.user_key; system_key = w.system_key; system_value = w.system_value }
 
-abbrev pub no_settings : SettingsWords
-no_settings = record { user_key = 0; system_key = 0; system_value = 0 }
+-- what reading gives, in the code's words
+abbrev pub read_words : Read Settings → Result SettingsWords Refusal
+read_words (refused r) = Err r
+read_words (accepted s) = Ok (settings_words s)
 
-abbrev pub settings_words_in : Read Settings → SettingsWords
-settings_words_in (refused r) = no_settings
-settings_words_in (accepted s) = settings_words s
+-- which kind of entry it is
+abbrev pub sort_of : Entry → Sort
+sort_of (container c) = Sort.Container
+sort_of (policy p) = Sort.Policy
 
--- what a reading says of the block b: nothing of it is left open
-pub record ReadsSettings (b : List ℕ) (r : SettingsReading) : Type 0 where
-  pub tested : r.tested ≡ tested_of (read_settings b)
-  pub settings : r.settings ≡ settings_words_in (read_settings b)
+-- the kind of the entry that is read, or the refusal
+abbrev pub read_sort : Read Entry → Result Sort Refusal
+read_sort (refused r) = Err r
+read_sort (accepted e) = Ok (sort_of e)

@@ -1,6 +1,8 @@
 -- The block that says an entry, and when an entry is valid.
 use Rattle.std.specs.Prelude.{Bool, true, ◌&&◌, cond, List, [], ◌∷◌, ◌++◌, ℕ, ◌-◌, ◌/◌, ◌%◌, eqb, leb, ltb, length, replicate}
-use Rattle.block.specs.Entry.{Label, Direction, ingress, egress, Settings, Entry, container, policy}
+use Rattle.block.specs.declared.Direction.{Direction}
+use Rattle.block.specs.declared.Direction.TheVariants.{Ingress as ingress, Egress as egress}
+use Rattle.block.specs.Entry.{Label, Settings, Entry, container, policy}
 use Rattle.block.specs.Bytes.{checksum}
 use Rattle.block.specs.Reader.{within}
 

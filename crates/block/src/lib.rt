@@ -2,27 +2,74 @@
 // policy says, and which refusal it meets, is defined in specs/.
 #![tactic(auto)]
 
-pub mod numbers;
+ghost use Rattle.std.specs.Prelude.{◌≡◌};
+ghost use Rattle.block.specs.Reader.{direction_of};
+ghost use Rattle.block.specs.Refusal.{reason_number};
+ghost use Rattle.block.specs.Written.{direction_number};
 
-// Where a test finds fault: nowhere, or at a position of the block.
-#[derive(Clone, Copy)]
-pub enum Fault {
-    Nowhere,
-    At(usize),
+// Why a call or a block is refused, in the order of document 01's list, the last two of document 02.
+#[derive(Clone, Copy, PartialEq, Eq)]
+pub enum Reason {
+    MemorySize,
+    NotWellFormed,
+    BlockLength,
+    Checksum,
+    Kind,
+    Limit,
+    Range,
+    Order,
+    Unused,
+    BeyondTable,
+    FreeSlot,
+    TableFull,
+    BufferLength,
+    BatchLength,
 }
 
-// A refusal: its number in document 01's list, and the position at fault in the block, 0 where there is none.
-#[derive(Clone, Copy)]
+impl Reason {
+    // Its number in the documents, from 1 on.
+    pub fn number(self) -> u8
+        ensures { result ≡ reason_number self }
+    {
+        match self {
+            Reason::MemorySize => 1,
+            Reason::NotWellFormed => 2,
+            Reason::BlockLength => 3,
+            Reason::Checksum => 4,
+            Reason::Kind => 5,
+            Reason::Limit => 6,
+            Reason::Range => 7,
+            Reason::Order => 8,
+            Reason::Unused => 9,
+            Reason::BeyondTable => 10,
+            Reason::FreeSlot => 11,
+            Reason::TableFull => 12,
+            Reason::BufferLength => 13,
+            Reason::BatchLength => 14,
+        }
+    }
+}
+
+// A refusal of a block: its reason, and the position at fault in the block, 0 where there is none.
+#[derive(Clone, Copy, PartialEq, Eq)]
 pub struct Refusal {
-    pub number: u8,
+    pub reason: Reason,
     pub position: usize,
 }
 
-// What a test answers: no refusal, or the first that applies.
-#[derive(Clone, Copy)]
-pub enum Tested {
-    Passed,
-    Refused(Refusal),
+impl From<Refusal> for Reason {
+    ghost from_gives = { λ refusal reason. reason ≡ refusal.reason };
+
+    fn from(refusal: Refusal) -> Reason {
+        refusal.reason
+    }
+}
+
+// The kind of an entry that a block holds.
+#[derive(Clone, Copy, PartialEq, Eq)]
+pub enum Sort {
+    Container,
+    Policy,
 }
 
 // The system key is 0 where no system label is set.
@@ -33,9 +80,39 @@ pub struct Settings {
     pub system_value: u64,
 }
 
-// The settings of a refused block are all zero.
-#[derive(Clone, Copy)]
-pub struct SettingsReading {
-    pub tested: Tested,
-    pub settings: Settings,
+// A policy is ingress or egress.
+#[derive(Clone, Copy, PartialEq, Eq)]
+pub enum Direction {
+    Ingress,
+    Egress,
+}
+
+// By the number that blocks and memory have: 1 ingress, 2 egress.
+// Kept: a number, since it is made from the byte of a block and the word of a slot, of any value.
+impl From<u64> for Direction {
+    ghost from_gives = { λ number direction. direction ≡ direction_of number };
+
+    #[tactic(auto, unfolding(crate::specs::Reader::direction_of))]
+    fn from(number: u64) -> Direction
+        ensures { result ≡ direction_of number }
+    {
+        if number == 1 {
+            Direction::Ingress
+        } else {
+            Direction::Egress
+        }
+    }
+}
+
+impl From<Direction> for u64 {
+    ghost from_gives = { λ direction number. number ≡ direction_number direction };
+
+    fn from(direction: Direction) -> u64
+        ensures { result ≡ direction_number direction }
+    {
+        match direction {
+            Direction::Ingress => 1,
+            Direction::Egress => 2,
+        }
+    }
 }

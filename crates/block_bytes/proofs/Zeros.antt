@@ -4,21 +4,21 @@ use mathlib.Core.List.{List}
 use Prim.Native.Nat.{ℕ, zero, suc, ◌+◌, ◌-◌, ◌*◌, ◌≤◌, ◌<◌, ◌%◌}
 use native.Mathlib.Nat.{le_refl, add-zero, add-suc, zero-mul}
 use native.Mathlib.Omega.{arith}
-use Rattle.block.specs.declared.Fault.{Fault}
-use Rattle.block.specs.declared.Fault.TheVariants.{Nowhere}
+use Rattle.std.specs.Prelude.{Option, None}
+use Rattle.std.specs.Option.{option_or}
 use Rattle.block.specs.Bytes.{byte_at, weighted, checksum}
-use Rattle.block.specs.Fault.{or_else, first_between}
+use Rattle.block.specs.Fault.{first_between}
 use Rattle.block.specs.Reader.{zero_fault}
 use Rattle.block.proofs.Faults.{faults-next, faults-done, between_none}
 use Rattle.block.proofs.Checks.{equal-none}
 use Rattle.block_bytes.specs.Used.{UsedEnd}
 
 -- a range of no byte
-pub no_byte : (b : List ℕ) (p : ℕ) → zero_fault b p p ≡ Nowhere
+pub no_byte : (b : List ℕ) (p : ℕ) → zero_fault b p p ≡ None
 unfolding zero_fault
 no_byte b p = faults-done _ p p (le_refl p)
 
-zero-at : (b : List ℕ) (from to : ℕ) → zero_fault b from to ≡ Nowhere → (k : ℕ) → from ≤ k → k < to → byte_at b k ≡ 0
+zero-at : (b : List ℕ) (from to : ℕ) → zero_fault b from to ≡ None → (k : ℕ) → from ≤ k → k < to → byte_at b k ≡ 0
 unfolding zero_fault
 zero-at b from to e k h l = (equal-none _ _ _).0 (between_none _ from to e k h l)
 
@@ -30,7 +30,7 @@ zeros-weigh b (suc d) from h =
     let r = zeros-weigh b d from (λ k l m. h k l (omega arith)) in
     ap (weighted b) (add-suc from d) ∙ omega arith
 
-weighed : (b : List ℕ) (from to : ℕ) → from ≤ to → zero_fault b from to ≡ Nowhere → weighted b to ≡ weighted b from
+weighed : (b : List ℕ) (from to : ℕ) → from ≤ to → zero_fault b from to ≡ None → weighted b to ≡ weighted b from
 weighed b from to h e =
     let q : to ≡ from + (to - from) = omega arith in
     ap (weighted b) q ∙ zeros-weigh b (to - from) from (λ k l m. zero-at b from to e k l (omega arith))
@@ -41,12 +41,12 @@ used-checksum b e u = ap (λ (s : ℕ). s % 65521) (weighed b e 510 u.high u.res
 
 -- ---- a search that may end at e
 
-shorter : (f : ℕ → Fault) (e to : ℕ) → e ≤ to → first_between f e to ≡ Nowhere → (d from : ℕ) → from + d ≡ e → first_between f from e ≡ first_between f from to
+shorter : (f : ℕ → Option ℕ) (e to : ℕ) → e ≤ to → first_between f e to ≡ None → (d from : ℕ) → from + d ≡ e → first_between f from e ≡ first_between f from to
 shorter f e to l h zero from q =
     let p : e ≡ from = omega arith in
     faults-done f from e (omega arith) ∙ sym h ∙ ap (λ (k : ℕ). first_between f k to) p
 shorter f e to l h (suc d) from q =
-    faults-next f from e (omega arith) ∙ ap (or_else (f from)) (shorter f e to l h d (from + 1) (omega arith)) ∙ sym (faults-next f from to (omega arith))
+    faults-next f from e (omega arith) ∙ ap (option_or (f from)) (shorter f e to l h d (from + 1) (omega arith)) ∙ sym (faults-next f from to (omega arith))
 
 pub used-zeros : (b : List ℕ) (e from : ℕ) → UsedEnd b e → from ≤ e → zero_fault b from e ≡ zero_fault b from 510
 unfolding zero_fault

@@ -1,61 +1,67 @@
-// The searches for the first position at fault.
+// The searches for the first position at fault: a fault is its position in the block.
 #![tactic(auto)]
 
-ghost use Rattle.std.specs.Prelude.{◌≡◌, ◌+◌, ◌*◌, ◌≤◌, ◌<◌, length};
-ghost use Rattle.block.specs.Fault.{unless, or_else};
+ghost use Rattle.std.specs.Prelude.{◌≡◌, ℕ, ◌+◌, ◌*◌, ◌≤◌, ◌<◌, length, Option, ⊤};
+ghost use Rattle.block.specs.Fault.{unless, first_between};
 ghost use Rattle.block.specs.Refusal.{refuse};
 ghost use Rattle.block.specs.Reader.{label_fault, range_fault, rise_fault, order_fault, zero_fault};
 
-use block::{Fault, Refusal, Tested};
+use block::{Reason, Refusal};
+use block_bytes::Span;
 
-// A fault at position p, unless the test holds.
-pub fn unless(test: bool, p: usize) -> Fault
-    ensures { result ≡ unless test p }
-{
-    if test { Fault::Nowhere } else { Fault::At(p) }
+// A label list: where its first label begins, and how many there are.
+#[derive(Clone, Copy)]
+pub struct Run {
+    pub start: usize,
+    pub count: usize,
 }
 
-// The first fault if there is one, else the second.
-pub fn or_else(first: Fault, second: Fault) -> Fault
-    ensures { result ≡ or_else first second }
+// A fault at position p, unless the test holds.
+pub fn unless(test: bool, p: usize) -> Option<usize>
+    ensures { result ≡ unless test p }
 {
-    match first {
-        Fault::Nowhere => second,
-        Fault::At(p) => Fault::At(p),
+    if test { None } else { Some(p) }
+}
+
+// The first fault that the search finds at the numbers from `from` on and before `to`.
+fn first_between<F: Fn(usize) -> Option<usize>>(from: usize, to: usize, search: F) -> Option<usize>
+    requires { (k : ℕ) → from ≤ k → k < to → F.pre search k }
+    ensures { (f : ℕ → Option ℕ) → ((k : ℕ) (r : Option ℕ) → from ≤ k → k < to → F.post search k r → r ≡ f k) → result ≡ first_between f from to }
+{
+    for k in from..to {
+        if let Some(p) = search(k) {
+            return Some(p);
+        }
     }
+    None
 }
 
 // The fault of the label whose key stands at p.
-fn label_fault(block: &[u8], p: usize) -> Fault
+#[tactic(auto, unfolding(block::specs::Reader::label_fault))]
+fn label_fault(block: &[u8], p: usize) -> Option<usize>
     requires { p + 4 ≤ length block.now }
     ensures { result ≡ label_fault block.now p }
 {
     let key = block_bytes::number_at(block, p);
     let value = block_bytes::number_at(block, p + 2);
-    or_else(
-        unless(block_bytes::within(1, 64, key), p),
-        unless(block_bytes::within(1, 65535, value), p + 2),
-    )
+    unless(block_bytes::within(1, 64, key), p).or(unless(
+        block_bytes::within(1, 65535, value),
+        p + 2,
+    ))
 }
 
-// The first key or value out of range, of n labels from `at`.
-pub fn range_fault(block: &[u8], at: usize, n: usize) -> Fault
-    requires { at + 4 * n ≤ length block.now }
-    ensures { result ≡ range_fault block.now at n }
+// The first key or value out of range.
+// Kept: this and `order_fault` are two rules of the format; the search that they share is `first_between`.
+pub fn range_fault(block: &[u8], run: Run) -> Option<usize>
+    requires { run.start + 4 * run.count ≤ length block.now }
+    ensures { result ≡ range_fault block.now run.start run.count }
 {
-    let mut k: usize = 0;
-    while k < n {
-        let f = label_fault(block, at + 4 * k);
-        if let Fault::At(p) = f {
-            return Fault::At(p);
-        }
-        k += 1;
-    }
-    Fault::Nowhere
+    first_between(0, run.count, |k| label_fault(block, run.start + 4 * k))
 }
 
 // The key at p exceeds the key before it.
-fn rise_fault(block: &[u8], p: usize) -> Fault
+#[tactic(auto, unfolding(block::specs::Reader::rise_fault))]
+fn rise_fault(block: &[u8], p: usize) -> Option<usize>
     requires { (4 ≤ p) × (p + 2 ≤ length block.now) }
     ensures { result ≡ rise_fault block.now p }
 {
@@ -64,46 +70,32 @@ fn rise_fault(block: &[u8], p: usize) -> Fault
     unless(before < key, p)
 }
 
-// The first key that does not rise, of n labels from `at`.
-pub fn order_fault(block: &[u8], at: usize, n: usize) -> Fault
-    requires { at + 4 * n ≤ length block.now }
-    ensures { result ≡ order_fault block.now at n }
+// The first key that does not rise.
+// Kept: as at `range_fault`.
+pub fn order_fault(block: &[u8], run: Run) -> Option<usize>
+    requires { run.start + 4 * run.count ≤ length block.now }
+    ensures { result ≡ order_fault block.now run.start run.count }
 {
-    let mut k: usize = 1;
-    while k < n {
-        let f = rise_fault(block, at + 4 * k);
-        if let Fault::At(p) = f {
-            return Fault::At(p);
-        }
-        k += 1;
-    }
-    Fault::Nowhere
+    first_between(1, run.count, |k| rise_fault(block, run.start + 4 * k))
 }
 
 // The first byte that is not zero, looked for only where there is one.
-pub fn zero_fault(block: &[u8], from: usize, to: usize) -> Fault
-    requires { to ≤ length block.now }
-    ensures { result ≡ zero_fault block.now from to }
+pub fn zero_fault(block: &[u8], span: Span) -> Option<usize>
+    requires { span.to ≤ length block.now }
+    ensures { result ≡ zero_fault block.now span.from span.to }
 {
-    if block_bytes::joined(block, from, to) == 0 {
-        return Fault::Nowhere;
+    if block_bytes::joined(block, span) == 0 {
+        return None;
     }
-    let mut i: usize = from;
-    while i < to {
-        if block[i] != 0 {
-            return Fault::At(i);
-        }
-        i += 1;
-    }
-    Fault::Nowhere
+    first_between(span.from, span.to, |i| unless(block[i] == 0, i))
 }
 
-// The refusal of this number if there is a fault, else what comes after.
-pub fn refuse(number: u8, fault: Fault, rest: Tested) -> Tested
-    ensures { result ≡ refuse number fault rest }
+// The refusal for this reason, if there is a fault.
+pub fn refuse(reason: Reason, fault: Option<usize>) -> Result<(), Refusal>
+    ensures { result ≡ refuse reason fault (Ok tt) }
 {
     match fault {
-        Fault::Nowhere => rest,
-        Fault::At(position) => Tested::Refused(Refusal { number, position }),
+        None => Ok(()),
+        Some(position) => Err(Refusal { reason, position }),
     }
 }

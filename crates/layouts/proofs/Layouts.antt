@@ -1,22 +1,23 @@
 -- Two runs and two ranges, of which one of each may be empty, say what the two layouts do; and what limits that hold tell.
-use mathlib.Core.Path.{◌≡◌, refl, sym, ap, ◌∙◌}
+use mathlib.Core.Path.{◌≡◌, refl, sym, ap, ap₂, ◌∙◌}
 use mathlib.Core.List.{List, [], ◌∷◌, ◌++◌}
 use Prim.Native.Nat.{ℕ, ◌+◌, ◌*◌, ◌≤◌}
 use native.Mathlib.Nat.{le_trans}
 use native.Mathlib.Omega.{arith}
 use borrow.Author.Tests.{leb-true}
 use lib.Dec.{leb}
-use Rattle.block.specs.declared.Fault.{Fault}
-use Rattle.block.specs.declared.Fault.TheVariants.{Nowhere, At}
-use Rattle.block.specs.declared.Tested.{Tested}
-use Rattle.block.specs.declared.Tested.TheVariants.{Passed}
+use Rattle.std.specs.Prelude.{Option, None, Some, Result, Ok, Err, ⊤}
+use Rattle.std.specs.Option.{option_or}
+use Rattle.block.specs.declared.Reason.{Reason}
+use Rattle.block.specs.declared.Reason.TheVariants.{Limit, Range, Order, Unused}
+use Rattle.block.specs.declared.Refusal.{Refusal}
 use Rattle.layouts.specs.declared.Body.{Body}
 use Rattle.block.specs.Bytes.{byte_at}
-use Rattle.block.specs.Fault.{unless, or_else, first_in}
+use Rattle.block.specs.Fault.{unless, first_in}
 use Rattle.block.specs.Refusal.{Check, check, refuse, first_refusal}
-use Rattle.block.specs.Reader.{Run, Range, within, range_fault, order_fault, range_faults, order_faults, unused_fault, container_layout, policy_layout}
+use Rattle.block.specs.Reader.{Run, Span, within, range_fault, order_fault, range_faults, order_faults, unused_fault, container_layout, policy_layout}
 use Rattle.layouts.specs.Steps.{runs_of, unused_of, body_checks, layout_checks}
-use Rattle.block.proofs.Checks.{unless-none, or_else-none, within-bounds}
+use Rattle.block.proofs.Checks.{unless-none, or_else-none, or_else-nowhere, refuse-past, refuse-stops, within-bounds}
 use Rattle.block_bytes.specs.Used.{UsedEnd}
 use Rattle.block_bytes.proofs.Zeros.{no_byte, used-zeros}
 
@@ -24,34 +25,34 @@ use Rattle.block_bytes.proofs.Zeros.{no_byte, used-zeros}
 
 -- an item that finds no fault may be left out
 module _ {A : Type 0} where
-  first_in-without : (f : A → Fault) (xs : List A) (x : A) (ys : List A) → f x ≡ Nowhere → first_in f (xs ++ (x ∷ ys)) ≡ first_in f (xs ++ ys)
-  first_in-without f [] x ys e = ap (λ (z : Fault). or_else z (first_in f ys)) e
-  first_in-without f (w ∷ xs) x ys e = ap (or_else (f w)) (first_in-without f xs x ys e)
+  first_in-without : (f : A → Option ℕ) (xs : List A) (x : A) (ys : List A) → f x ≡ None → first_in f (xs ++ (x ∷ ys)) ≡ first_in f (xs ++ ys)
+  first_in-without f [] x ys e = ap (λ (z : Option ℕ). option_or z (first_in f ys)) e
+  first_in-without f (w ∷ xs) x ys e = ap (option_or (f w)) (first_in-without f xs x ys e)
 
-no-label-range : (b : List ℕ) (p : ℕ) → range_fault b p 0 ≡ Nowhere
+no-label-range : (b : List ℕ) (p : ℕ) → range_fault b p 0 ≡ None
 unfolding range_fault
 no-label-range b p = refl
 
-no-label-order : (b : List ℕ) (p : ℕ) → order_fault b p 0 ≡ Nowhere
+no-label-order : (b : List ℕ) (p : ℕ) → order_fault b p 0 ≡ None
 unfolding order_fault
 no-label-order b p = refl
 
-empty-run : (b : List ℕ) (rs qs : List Run) (p : ℕ) (us : List Range) → body_checks b (rs ++ (record { start = p; count = 0 } ∷ qs)) us ≡ body_checks b (rs ++ qs) us
+empty-run : (b : List ℕ) (rs qs : List Run) (p : ℕ) (us : List Span) → body_checks b (rs ++ (record { start = p; count = 0 } ∷ qs)) us ≡ body_checks b (rs ++ qs) us
 unfolding body_checks
 empty-run b rs qs p us =
     let range : range_faults b (rs ++ (record { start = p; count = 0 } ∷ qs)) ≡ range_faults b (rs ++ qs) = first_in-without _ rs _ qs (no-label-range b p) in
     let order : order_faults b (rs ++ (record { start = p; count = 0 } ∷ qs)) ≡ order_faults b (rs ++ qs) = first_in-without _ rs _ qs (no-label-order b p) in
-    ap (λ (f : Fault). check 7 f ∷ check 8 (order_faults b (rs ++ (record { start = p; count = 0 } ∷ qs))) ∷ check 9 (unused_fault b us) ∷ []) range
-    ∙ ap (λ (f : Fault). check 7 (range_faults b (rs ++ qs)) ∷ check 8 f ∷ check 9 (unused_fault b us) ∷ []) order
+    ap (λ (f : Option ℕ). check Range f ∷ check Order (order_faults b (rs ++ (record { start = p; count = 0 } ∷ qs))) ∷ check Unused (unused_fault b us) ∷ []) range
+    ∙ ap (λ (f : Option ℕ). check Range (range_faults b (rs ++ qs)) ∷ check Order f ∷ check Unused (unused_fault b us) ∷ []) order
 
-empty-range : (b : List ℕ) (rs : List Run) (us vs : List Range) (p : ℕ) → body_checks b rs (us ++ (record { from = p; to = p } ∷ vs)) ≡ body_checks b rs (us ++ vs)
+empty-range : (b : List ℕ) (rs : List Run) (us vs : List Span) (p : ℕ) → body_checks b rs (us ++ (record { from = p; to = p } ∷ vs)) ≡ body_checks b rs (us ++ vs)
 unfolding body_checks
 empty-range b rs us vs p =
-    ap (λ (f : Fault). check 7 (range_faults b rs) ∷ check 8 (order_faults b rs) ∷ check 9 f ∷ []) (first_in-without _ us _ vs (no_byte b p))
+    ap (λ (f : Option ℕ). check Range (range_faults b rs) ∷ check Order (order_faults b rs) ∷ check Unused f ∷ []) (first_in-without _ us _ vs (no_byte b p))
 
 -- ---- what limits that hold tell
 
-pub container-count : (b : List ℕ) → (container_layout b).limits ≡ Nowhere → byte_at b 1 ≤ 8
+pub container-count : (b : List ℕ) → (container_layout b).limits ≡ None → byte_at b 1 ≤ 8
 unfolding container_layout
 container-count b e = leb-true (byte_at b 1) 8 ((unless-none _ 1).0 e)
 
@@ -61,10 +62,10 @@ pub record PolicyLimits (b : List ℕ) : Type 0 where
   pub select : byte_at b 2 ≤ 4
   pub allow : byte_at b 3 ≤ 4
 
-pub policy-counts : (b : List ℕ) → (policy_layout b).limits ≡ Nowhere → PolicyLimits b
+pub policy-counts : (b : List ℕ) → (policy_layout b).limits ≡ None → PolicyLimits b
 unfolding policy_layout
 policy-counts b e =
-    let s = or_else-none (unless (within 1 2 (byte_at b 1)) 1) (or_else (unless (leb (byte_at b 2) 4) 2) (unless (leb (byte_at b 3) 4) 3)) e in
+    let s = or_else-none (unless (within 1 2 (byte_at b 1)) 1) (option_or (unless (leb (byte_at b 2) 4) 2) (unless (leb (byte_at b 3) 4) 3)) e in
     let t = or_else-none (unless (leb (byte_at b 2) 4) 2) (unless (leb (byte_at b 3) 4) 3) s.1 in
     let w = within-bounds 1 2 (byte_at b 1) ((unless-none _ 1).0 s.0) in
     record {
@@ -96,38 +97,47 @@ policy_body m n e =
     }
 
 -- what layout_test answers of a body
-abbrev answered : List ℕ → Fault → Body → Tested
-answered b f y = first_refusal (check 6 f ∷ body_checks b (runs_of y) (unused_of y))
-
--- the refusals nest as the checks do
-pub body-answered : (b : List ℕ) (f range order unused : Fault) (y : Body) (s t r : Tested) → f ≡ Nowhere → range ≡ range_faults b (runs_of y)
-    → order ≡ order_faults b (runs_of y) → unused ≡ unused_fault b (unused_of y) → s ≡ refuse 9 unused Passed → t ≡ refuse 8 order s → r ≡ refuse 7 range t
-    → r ≡ answered b f y
-unfolding body_checks
-body-answered b f range order unused y s t r l h k u p q e = simp l (cc)
+abbrev answered : List ℕ → Option ℕ → Body → Result ⊤ Refusal
+answered b f y = first_refusal (check Limit f ∷ body_checks b (runs_of y) (unused_of y))
 
 -- y, with its rest looked at up to e
 abbrev rest_to : ℕ → Body → Body
 rest_to e y = record { first = y.first; second = y.second; head = y.head; rest = record { from = y.rest.from; to = e } }
 
-rest-to : (b : List ℕ) (e : ℕ) → UsedEnd b e → (f : Fault) (y : Body) → (f ≡ Nowhere → y.rest.from ≤ 36) → answered b f (rest_to e y) ≡ answered b f (rest_to 510 y)
+rest-to : (b : List ℕ) (e : ℕ) → UsedEnd b e → (f : Option ℕ) (y : Body) → (f ≡ None → y.rest.from ≤ 36) → answered b f (rest_to e y) ≡ answered b f (rest_to 510 y)
 unfolding body_checks runs_of unused_of
-rest-to b e u Nowhere y l = rw (used-zeros b e y.rest.from u (le_trans (l refl) u.low))
-rest-to b e u (At p) y l = refl
+rest-to b e u None y l = rw (used-zeros b e y.rest.from u (le_trans (l refl) u.low))
+rest-to b e u (Some p) y l = refl
 
-pub container-layout : (b : List ℕ) (f : Fault) (n e : ℕ) → UsedEnd b e → f ≡ unless (leb (byte_at b 1) 8) 1 → n ≡ byte_at b 1 → answered b f (container_body n e) ≡ first_refusal (layout_checks b (container_layout b))
+pub container-layout : (b : List ℕ) (f : Option ℕ) (n e : ℕ) → UsedEnd b e → f ≡ unless (leb (byte_at b 1) 8) 1 → n ≡ byte_at b 1 → answered b f (container_body n e) ≡ first_refusal (layout_checks b (container_layout b))
 unfolding layout_checks container_layout runs_of unused_of
 container-layout b f n e u q h =
     rest-to b e u f (container_body n e) (λ z. omega (arith, container-count b (sym q ∙ z)))
-    ∙ ap (λ (g : Fault). answered b g (container_body n 510)) q
+    ∙ ap (λ (g : Option ℕ). answered b g (container_body n 510)) q
     ∙ ap (λ (k : ℕ). answered b (unless (leb (byte_at b 1) 8) 1) (container_body k 510)) h
-    ∙ ap (λ (cs : List Check). first_refusal (check 6 (unless (leb (byte_at b 1) 8) 1) ∷ cs)) (empty-run b (record { start = 4; count = byte_at b 1 } ∷ []) [] (4 + 4 * byte_at b 1) _)
+    ∙ ap (λ (cs : List Check). first_refusal (check Limit (unless (leb (byte_at b 1) 8) 1) ∷ cs)) (empty-run b (record { start = 4; count = byte_at b 1 } ∷ []) [] (4 + 4 * byte_at b 1) _)
 
-pub policy-layout : (b : List ℕ) (f : Fault) (m n e : ℕ) → UsedEnd b e → f ≡ (policy_layout b).limits → m ≡ byte_at b 2 → n ≡ byte_at b 3 → answered b f (policy_body m n e) ≡ first_refusal (layout_checks b (policy_layout b))
+pub policy-layout : (b : List ℕ) (f : Option ℕ) (m n e : ℕ) → UsedEnd b e → f ≡ (policy_layout b).limits → m ≡ byte_at b 2 → n ≡ byte_at b 3 → answered b f (policy_body m n e) ≡ first_refusal (layout_checks b (policy_layout b))
 unfolding layout_checks policy_layout runs_of unused_of
 policy-layout b f m n e u q h k =
     rest-to b e u f (policy_body m n e) (λ z. let l = policy-counts b (sym q ∙ z) in omega arith)
-    ∙ ap (λ (g : Fault). answered b g (policy_body m n 510)) q
+    ∙ ap (λ (g : Option ℕ). answered b g (policy_body m n 510)) q
     ∙ ap (λ (i : ℕ). answered b (policy_layout b).limits (policy_body i n 510)) h
     ∙ ap (λ (j : ℕ). answered b (policy_layout b).limits (policy_body (byte_at b 2) j 510)) k
-    ∙ ap (λ (cs : List Check). first_refusal (check 6 (policy_layout b).limits ∷ cs)) (empty-range b (policy_layout b).runs [] (policy_layout b).unused 4)
+    ∙ ap (λ (cs : List Check). first_refusal (check Limit (policy_layout b).limits ∷ cs)) (empty-range b (policy_layout b).runs [] (policy_layout b).unused 4)
+
+-- ---- a check answered by itself, and those after it
+
+pub past : (w : Reason) (f : Option ℕ) (t r rest : Result ⊤ Refusal) → t ≡ refuse w f (Ok tt) → t ≡ Ok tt → r ≡ rest → r ≡ refuse w f rest
+past w f t r rest e o h = h ∙ sym (refuse-past w f rest (sym e ∙ o))
+
+pub stops : (w : Reason) (f : Option ℕ) (t r rest : Result ⊤ Refusal) (x : Refusal) → t ≡ refuse w f (Ok tt) → t ≡ Err x → r ≡ Err x → r ≡ refuse w f rest
+stops w f t r rest x e o h = h ∙ sym (refuse-stops w f rest x (sym e ∙ o))
+
+-- a fault that is worked out
+pub by-fault : (w : Reason) (f g : Option ℕ) (t : Result ⊤ Refusal) → t ≡ refuse w f (Ok tt) → f ≡ g → t ≡ refuse w g (Ok tt)
+by-fault w f g t e h = e ∙ ap (λ (x : Option ℕ). refuse w x (Ok tt)) h
+
+-- the first fault in a list of two
+pub in-two : (r x y a b : Option ℕ) → r ≡ option_or x y → x ≡ a → y ≡ b → r ≡ option_or a (option_or b None)
+in-two r x y a b e h k = e ∙ ap₂ option_or h (k ∙ sym (or_else-nowhere b))

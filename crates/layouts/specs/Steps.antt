@@ -1,32 +1,38 @@
 -- What the test of a block's frame answers, how the code holds a layout, and what its test goes through.
-use Rattle.std.specs.Prelude.{◌≡◌, List, [], ◌∷◌, ℕ, ◌+◌, ◌*◌, ◌≤◌}
-use Rattle.layouts.specs.declared.Run.{Run as CodeRun}
-use Rattle.layouts.specs.declared.Span.{Span}
+use Rattle.std.specs.Prelude.{◌≡◌, ◌≢◌, List, [], ◌∷◌, ℕ, ◌+◌, ◌*◌, ◌≤◌, length, Result, Ok, Err}
+use denote.Ref.{Bor}
 use Rattle.layouts.specs.declared.Body.{Body}
-use Rattle.layouts.specs.declared.Framed.{Framed}
-use Rattle.block.specs.declared.Tested.TheVariants.{Passed}
+use Rattle.faults.specs.declared.Run.{Run as CodeRun}
+use Rattle.block_bytes.specs.declared.Span.{Span as CodeSpan}
+use Rattle.block.specs.declared.Reason.TheVariants.{BlockLength, Limit, Range, Order, Unused}
+use Rattle.block.specs.declared.Refusal.{Refusal}
 use Rattle.block.specs.Refusal.{Check, check, first_refusal}
-use Rattle.block.specs.Reader.{Run, Range, Layout, range_faults, order_faults, unused_fault, frame}
+use Rattle.block.specs.Reader.{Run, Span, Layout, range_faults, order_faults, unused_fault, frame}
 use Rattle.block_bytes.specs.Used.{UsedEnd}
 
+-- 3, or the bytes themselves, 512 of them
+abbrev pub IsWhole : List ℕ → Result (Bor (List ℕ)) Refusal → Type 0
+IsWhole b (Ok w) = (w.now ≡ b) × (length b ≡ 512)
+IsWhole b (Err r) = (r ≡ record { reason = BlockLength; position = 0 }) × (length b ≢ 512)
+
 -- 3 and 4, and where the used bytes of a block that meets neither end
-pub record Frames (b : List ℕ) (r : Framed) : Type 0 where
-  pub tested : r.tested ≡ first_refusal (frame b)
-  pub used : r.tested ≡ Passed → UsedEnd b r.end
+abbrev pub Frames : List ℕ → Result ℕ Refusal → Type 0
+Frames b (Ok end) = (first_refusal (frame b) ≡ Ok tt) × UsedEnd b end
+Frames b (Err r) = first_refusal (frame b) ≡ Err r
 
 -- ---- the code holds a layout as two runs of labels and two ranges of unused bytes, of which any may be empty
 
 abbrev pub run_of : CodeRun → Run
 run_of r = record { start = r.start; count = r.count }
 
-abbrev pub range_of : Span → Range
-range_of s = record { from = s.from; to = s.to }
+abbrev pub span_of : CodeSpan → Span
+span_of s = record { from = s.from; to = s.to }
 
 unfoldable pub runs_of : Body → List Run
 runs_of y = run_of y.first ∷ run_of y.second ∷ []
 
-unfoldable pub unused_of : Body → List Range
-unused_of y = range_of y.head ∷ range_of y.rest ∷ []
+unfoldable pub unused_of : Body → List Span
+unused_of y = span_of y.head ∷ span_of y.rest ∷ []
 
 -- the run lies within n bytes
 abbrev pub RunWithin : ℕ → CodeRun → Type 0
@@ -40,9 +46,9 @@ pub record BodyWithin (n : ℕ) (y : Body) : Type 0 where
   pub rest : y.rest.to ≤ n
 
 -- 7, 8 and 9
-unfoldable pub body_checks : List ℕ → List Run → List Range → List Check
-body_checks b rs us = check 7 (range_faults b rs) ∷ check 8 (order_faults b rs) ∷ check 9 (unused_fault b us) ∷ []
+unfoldable pub body_checks : List ℕ → List Run → List Span → List Check
+body_checks b rs us = check Range (range_faults b rs) ∷ check Order (order_faults b rs) ∷ check Unused (unused_fault b us) ∷ []
 
 -- 6 to 9
 unfoldable pub layout_checks : List ℕ → Layout → List Check
-layout_checks b l = check 6 l.limits ∷ body_checks b l.runs l.unused
+layout_checks b l = check Limit l.limits ∷ body_checks b l.runs l.unused

@@ -1,30 +1,28 @@
 // The test of an admission block.
 ghost use Rattle.std.specs.Prelude.{◌≡◌};
-ghost use Rattle.block.specs.Refusal.{first_refusal};
-ghost use Rattle.block.specs.Reader.{entry_checks};
-ghost use Rattle.block.specs.Reading.{settings_of};
+ghost use Rattle.block.specs.Reader.{read_entry};
+ghost use Rattle.block.specs.Reading.{settings_of, read_sort};
 
-use block::{Refusal, Settings, Tested, numbers};
+use block::{Reason, Refusal, Settings, Sort};
 
-// The first refusal that the block of an admission meets under the settings.
-pub fn test_entry(settings: Settings, block: &[u8]) -> Tested
-    ensures { result ≡ first_refusal (entry_checks (settings_of settings) block.now) }
+// The kind of the entry that the block of an admission says under the settings, or the first refusal that it meets.
+pub fn test_entry(settings: Settings, block: &[u8]) -> Result<Sort, Refusal>
+    ensures { result ≡ read_sort (read_entry (settings_of settings) block.now) }
 {
-    let framed = layouts::frame(block);
-    let tested = framed.tested;
-    let end = framed.end;
-    if let Tested::Refused(by) = tested {
-        return Tested::Refused(by);
+    let bytes = layouts::whole(block)?;
+    let end = layouts::frame(bytes)?;
+    match bytes[0] {
+        b'C' => {
+            entry_layouts::container_test(bytes, end)?;
+            Ok(Sort::Container)
+        }
+        b'P' => {
+            entry_layouts::policy_test(bytes, end)?;
+            Ok(Sort::Policy)
+        }
+        _ => Err(Refusal {
+            reason: Reason::Kind,
+            position: 0,
+        }),
     }
-    let kind = block[0];
-    if kind == 67 {
-        return entry_layouts::container_test(block, end);
-    }
-    if kind == 80 {
-        return entry_layouts::policy_test(block, end);
-    }
-    Tested::Refused(Refusal {
-        number: numbers::KIND,
-        position: 0,
-    })
 }

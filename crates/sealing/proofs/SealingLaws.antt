@@ -1,15 +1,13 @@
 -- Bytes put one behind the other, and the sum that they add to. A zero is a byte put like another, which adds nothing.
 use mathlib.Core.Path.{◌≡◌, refl, sym, ap, ap₂, ◌∙◌, subst}
 use mathlib.Core.List.{List, [], ◌∷◌, ◌++◌, append-nil, append_assoc}
-use Prim.Native.Nat.{ℕ, ◌+◌, ◌-◌, ◌*◌, ◌/◌, ◌%◌, ◌≤◌, ◌<◌}
-use native.Mathlib.Nat.{add-zero, zero-add, sub_self, mul-le-mul}
+use Prim.Native.Nat.{ℕ, zero, suc, ◌+◌, ◌-◌, ◌*◌, ◌/◌, ◌%◌, ◌≤◌, ◌<◌}
+use native.Mathlib.Nat.{add-zero, add-suc, zero-add, zero-mul, mul-le-mul}
 use native.Mathlib.Numerals.{add-one}
 use native.Mathlib.Omega.{arith}
-use mir.Syntax.{w64}
-use mir.Val.{Fits}
-use lib.ListN.{length, set, take, replicate, length-append, length-set, replicate-append-replicate, drop_of_length-le}
-use lib.Seq.{sets, sets-eq, length-take-le, take-suc-set, get_or-take, get_or-set_same, get_or-set_other}
-use Rattle.block.specs.Bytes.{weighted, checksum}
+use lib.ListN.{length, set, take, replicate, get_or, length-append, length-set, get_or-append, drop_of_length-le}
+use lib.Seq.{sets, sets-eq, length-take-le, take-suc-set, get_or-take, get_or-append-add, get_or-set_same, get_or-set_other}
+use Rattle.block.specs.Bytes.{byte_at, weighted, checksum}
 use Rattle.block.specs.Written.{number_bytes, sealed}
 use Rattle.block.proofs.Weights.{same-weight}
 use Rattle.sealing.specs.Sealing.{Summed, Lengthens}
@@ -47,15 +45,9 @@ weighted-set d at x h =
     ap (weighted (set d at x)) (add-one at)
     ∙ ap₂ (λ (m n : ℕ). m + n * (at + 1)) (same-weight (set d at x) d at (λ k l. get_or-set_other d at k x 0 (λ e. omega arith))) (get_or-set_same d at x 0 h)
 
--- what a byte adds to the sum, and the sum with it, fit a word
-pub byte_small : (x p : ℕ) → x ≤ 255 → p ≤ 510 → x * p ≤ 130050
+-- what a byte adds to the sum at most
+byte_small : (x p : ℕ) → x ≤ 255 → p ≤ 510 → x * p ≤ 130050
 byte_small x p h k = mul-le-mul {n₂ = 255} {m₂ = 510} h k
-
-pub byte_fits : (x p : ℕ) → x ≤ 255 → p ≤ 510 → Fits w64 (x * p)
-byte_fits x p h k = record { fits = omega (arith, byte_small x p h k) }
-
-pub sum_fits : (s x p : ℕ) → s ≤ 66325500 → x ≤ 255 → p ≤ 510 → Fits w64 (s + x * p)
-sum_fits s x p b h k = record { fits = omega (arith, byte_small x p h k) }
 
 byte_put : {d : List ℕ} {at sum : ℕ} (x : ℕ) → Summed d at sum → at < 510 → x ≤ 255 → Lengthens d at (x ∷ []) (set d at x) (sum + x * (at + 1))
 byte_put {d} {at} {sum} x s h b =
@@ -77,49 +69,49 @@ number_put {n} s h b =
     let high = byte_put (n / 256) s (omega arith) (omega arith) in
     lengthens-then high (byte_put (n % 256) high.summed (omega arith) (omega arith))
 
+-- the same of the two bytes as they are held
+pub bytes-put : {d : List ℕ} {at sum n : ℕ} (v : List ℕ) (x y : ℕ) → Summed d at sum → at + 2 ≤ 510 → n ≤ 65535 → v ≡ number_bytes n → x ≡ get_or v 0 0 → y ≡ get_or v 1 0
+    → Lengthens d at (number_bytes n) (set (set d at (get_or v 0 0)) (at + 1) (get_or v 1 0)) (sum + x * (at + 1) + y * (at + 1 + 1))
+bytes-put v x y s h b e p q = rw (p, q, e) (number_put s h b)
+
 -- ---- zeros, then the checksum
 
--- the first i bytes of e are the first `at` of d and then zeros, and the sum is still that of d's
-pub record Zeroed (d : List ℕ) (at sum : ℕ) (e : List ℕ) (i : ℕ) : Type 0 where
-  pub from : at ≤ i
-  pub zeros : take i e ≡ take at d ++ replicate (i - at) 0
-  pub summed : Summed e i sum
+zeros : (m k : ℕ) → byte_at (replicate m 0) k ≡ 0
+zeros zero k = refl
+zeros (suc m) zero = refl
+zeros (suc m) (suc k) = zeros m k
 
-pub zeroed-none : {d : List ℕ} {at sum : ℕ} → Summed d at sum → Zeroed d at sum d at
-zeroed-none {d} {at} s = record {
-  from = omega arith;
-  zeros = sym (ap (λ (n : ℕ). take at d ++ replicate n 0) (sub_self at) ∙ append-nil (take at d));
-  summed = s;
-}
+-- zeros behind some bytes add nothing to their sum
+zeros-weigh : (a : List ℕ) (m k : ℕ) → weighted (a ++ replicate m 0) (length a + k) ≡ weighted a (length a)
+unfolding weighted
+zeros-weigh a m zero =
+    ap (weighted (a ++ replicate m 0)) (add-zero (length a))
+    ∙ same-weight (a ++ replicate m 0) a (length a) (λ i h. get_or-append a (replicate m 0) 0 i h)
+zeros-weigh a m (suc k) =
+    let z : byte_at (a ++ replicate m 0) (length a + k) ≡ 0 = get_or-append-add a (replicate m 0) k 0 ∙ zeros m k in
+    ap (weighted (a ++ replicate m 0)) (add-suc (length a) k)
+    ∙ ap₂ (λ (s x : ℕ). s + x * (length a + k + 1)) (zeros-weigh a m k) z
+    ∙ omega (arith, zero-mul (length a + k + 1))
 
-zeros-more : (front : List ℕ) (k : ℕ) → front ++ replicate k 0 ++ 0 ∷ [] ≡ front ++ replicate (k + 1) 0
-zeros-more front k = append_assoc front (replicate k 0) (0 ∷ []) ∙ ap (λ (l : List ℕ). front ++ l) (replicate-append-replicate k 1 0)
-
-pub zeroed-next : {d e : List ℕ} {at sum i : ℕ} → Zeroed d at sum e i → i < 510 → Zeroed d at sum (set e i 0) (i + 1)
-zeroed-next {d} {e} {at} {sum} {i} g h =
-    let p : Lengthens e i (0 ∷ []) (set e i 0) (sum + 0 * (i + 1)) = byte_put 0 g.summed h (omega arith) in
-    let q : i - at + 1 ≡ i + 1 - at = omega arith in
-    let r : sum + 0 * (i + 1) ≡ sum = omega arith in
-    record {
-      from = omega arith;
-      zeros = p.front ∙ ap (λ (l : List ℕ). l ++ 0 ∷ []) g.zeros ∙ zeros-more (take at d) (i - at) ∙ ap (λ (n : ℕ). take at d ++ replicate n 0) q;
-      summed = subst (Summed (set e i 0) (i + 1)) r p.summed;
-    }
+filled-weight : {d : List ℕ} {at sum : ℕ} → Summed d at sum → weighted (take at d ++ replicate (510 - at) 0) 510 ≡ sum
+filled-weight {d} {at} {sum} s =
+    let l : length (take at d) ≡ at = length-take-le at d (omega arith) in
+    let q : 510 ≡ length (take at d) + (510 - at) = omega arith in
+    ap (weighted (take at d ++ replicate (510 - at) 0)) q
+    ∙ zeros-weigh (take at d) (510 - at) (510 - at)
+    ∙ ap (weighted (take at d)) l
+    ∙ same-weight (take at d) d at (λ k h. get_or-take at d k 0 h)
+    ∙ sym s.is
 
 -- in the last two bytes the remainder of the sum of those before
-ended : (n m sum : ℕ) (e b : List ℕ) → length e ≡ n + 2 → sum ≡ weighted e n → take n e ≡ b → sets e n (number_bytes (sum % m)) ≡ b ++ number_bytes (weighted b n % m)
-ended n m sum e b h w q =
-    let c = number_bytes (sum % m) in
-    sets-eq c e n (omega arith)
-    ∙ ap (λ (l : List ℕ). take n e ++ c ++ l) (drop_of_length-le e {i = n + 2} (omega arith))
-    ∙ append-nil (take n e ++ c)
-    ∙ ap (λ (k : ℕ). take n e ++ number_bytes (k % m)) (w ∙ same-weight e (take n e) n (λ k l. sym (get_or-take n e k 0 l)))
-    ∙ ap (λ (l : List ℕ). l ++ number_bytes (weighted l n % m)) q
-
-pub zeroed-sealed : {d e : List ℕ} {at sum i : ℕ} → Summed d at sum → Zeroed d at sum e i → 510 ≤ i → sets e 510 (number_bytes (sum % 65521)) ≡ sealed (take at d)
+pub filled-sealed : {d : List ℕ} {at sum : ℕ} (e : List ℕ) → Summed d at sum → length e ≡ 512 → take 510 e ≡ take at d ++ replicate (510 - at) 0 → sets e 510 (number_bytes (sum % 65521)) ≡ sealed (take at d)
 unfolding sealed checksum
-zeroed-sealed {d} {e} {at} {sum} {i} s z h =
-    let q : i ≡ 510 = omega arith in
-    let g : Zeroed d at sum e 510 = subst (Zeroed d at sum e) q z in
+filled-sealed {d} {at} {sum} e s h z =
+    let c = number_bytes (sum % 65521) in
     let l : length (take at d) ≡ at = length-take-le at d (omega arith) in
-    ended 510 65521 sum e _ g.summed.long g.summed.is (g.zeros ∙ ap (λ (k : ℕ). take at d ++ replicate (510 - k) 0) (sym l))
+    sets-eq c e 510 (omega arith)
+    ∙ ap (λ (r : List ℕ). take 510 e ++ c ++ r) (drop_of_length-le e {i = 512} (omega arith))
+    ∙ append-nil (take 510 e ++ c)
+    ∙ ap (λ (r : List ℕ). r ++ c) z
+    ∙ ap (λ (n : ℕ). take at d ++ replicate (510 - at) 0 ++ number_bytes (n % 65521)) (sym (filled-weight s))
+    ∙ ap (λ (k : ℕ). take at d ++ replicate (510 - k) 0 ++ number_bytes (weighted (take at d ++ replicate (510 - k) 0) 510 % 65521)) (sym l)
