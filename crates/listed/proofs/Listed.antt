@@ -8,9 +8,13 @@ use native.Mathlib.Omega.{arith}
 use lib.Dec.{eqb, leb}
 use borrow.Author.Tests.{eq-eqb, le-leb}
 use lib.ListN.{length, replicate, drop, length-append, length-replicate}
-use Rattle.block.specs.Entry.{Label, Direction, ingress, egress, Settings, Entry, container, policy}
+use Rattle.block.specs.declared.Direction.{Direction}
+use Rattle.block.specs.declared.Direction.TheVariants.{Ingress as ingress, Egress as egress}
+use Rattle.std.specs.Prelude.{Err}
+use Rattle.block.specs.Entry.{Label, Settings, Entry, container, policy}
+use Rattle.block.specs.declared.Reason.{Reason}
+use Rattle.block.specs.declared.Reason.TheVariants.{BlockLength, Checksum, Kind, Limit, Range, Order, Unused}
 use Rattle.block.specs.declared.Refusal.{Refusal}
-use Rattle.block.specs.declared.Tested.TheVariants.{Refused}
 use Rattle.block.specs.Refusal.{Check, first_refusal, Read, refused, accepted, read_unless}
 use Rattle.block.specs.Cut.{blocks_of}
 use Rattle.block.specs.Bytes
@@ -31,7 +35,7 @@ use Rattle.model.specs.Findings.{containers_of, policies_of, pairs_in}
 use Rattle.stars.specs.Stars.{label, policy_to}
 use Rattle.model.specs.Calls.{ask_reaches, ask_user, next_finding, list_findings, counts, audit, write}
 use Rattle.model.specs.Calls.{Call, open_with, change, admit, admit_batch, remove_container, remove_policy, rebuild, ask}
-use Rattle.model.specs.Calls.{Answer, refusal, says, counted, file_put, run}
+use Rattle.model.specs.Calls.{Answer, refusal, counted, file_put, run}
 use Rattle.model.specs.Batch
 use Rattle.model.specs.Batch.{batch_outcome}
 use Rattle.model.specs.File
@@ -165,38 +169,38 @@ module _ (e : Entry) (valid : (s : Settings) → valid_entry s e ≡ true) where
   reads : Known
   reads = entry (block_of e) (accepted e) (λ s. written_read s e (valid s))
 
-abbrev at : ℕ → ℕ → Refusal
-at n p = record { number = n; position = p }
+abbrev at : Reason → ℕ → Refusal
+at w p = record { reason = w; position = p }
 
 -- a sealed block passes 3 and 4, so what refuses it is one of the checks after them
 module _ (front : List ℕ) (h : length front ≤ 510) where
-  framed : {A : Type 0} (cs : List Check) (x : A) (r : Refusal) → first_refusal cs ≡ Refused r → read_unless (first_refusal (frame (sealed front) ++ cs)) x ≡ refused r
+  framed : {A : Type 0} (cs : List Check) (x : A) (r : Refusal) → first_refusal cs ≡ Err r → read_unless (first_refusal (frame (sealed front) ++ cs)) x ≡ refused r
   framed cs x r e = rw (eq-eqb _ 512 (sealed-length front h), eq-eqb _ _ (sealed-checked front h), e)
 
-  entry-refused : (s : Settings) (r : Refusal) → first_refusal (drop 2 (entry_checks s (sealed front))) ≡ Refused r → read_entry s (sealed front) ≡ refused r
+  entry-refused : (s : Settings) (r : Refusal) → first_refusal (drop 2 (entry_checks s (sealed front))) ≡ Err r → read_entry s (sealed front) ≡ refused r
   unfolding Reader.read_entry Reader.entry_checks
   entry-refused s r e = framed (drop 2 (entry_checks s (sealed front))) (entry_said (sealed front)) r e
 
-  settings-refused : (r : Refusal) → first_refusal (drop 2 (settings_checks (sealed front))) ≡ Refused r → read_settings (sealed front) ≡ refused r
+  settings-refused : (r : Refusal) → first_refusal (drop 2 (settings_checks (sealed front))) ≡ Err r → read_settings (sealed front) ≡ refused r
   unfolding Reader.read_settings Reader.settings_checks
   settings-refused r e = framed (drop 2 (settings_checks (sealed front))) (settings_said (sealed front)) r e
 
 -- each refused block: its refusal, and the position at fault
 record Refusals (s : Settings) : Type 0 where
-  short : read_entry s short_block ≡ refused (at 3 0)
-  unchecked : read_entry s unchecked_block ≡ refused (at 4 510)
-  kind : read_entry s kind_block ≡ refused (at 5 0)
-  nine : read_entry s nine_block ≡ refused (at 6 1)
-  value : read_entry s value_block ≡ refused (at 7 10)
-  order : read_entry s order_block ≡ refused (at 8 8)
-  unused : read_entry s unused_block ≡ refused (at 9 3)
-  user_key : read_settings key_block ≡ refused (at 7 1)
+  short : read_entry s short_block ≡ refused (at BlockLength 0)
+  unchecked : read_entry s unchecked_block ≡ refused (at Checksum 510)
+  kind : read_entry s kind_block ≡ refused (at Kind 0)
+  nine : read_entry s nine_block ≡ refused (at Limit 1)
+  value : read_entry s value_block ≡ refused (at Range 10)
+  order : read_entry s order_block ≡ refused (at Order 8)
+  unused : read_entry s unused_block ≡ refused (at Unused 3)
+  user_key : read_settings key_block ≡ refused (at Range 1)
 
-short-refused : (s : Settings) → read_entry s short_block ≡ refused (at 3 0)
+short-refused : (s : Settings) → read_entry s short_block ≡ refused (at BlockLength 0)
 unfolding short_block Reader.read_entry Reader.entry_checks
 short-refused s = refl
 
-unchecked-refused : (s : Settings) → read_entry s unchecked_block ≡ refused (at 4 510)
+unchecked-refused : (s : Settings) → read_entry s unchecked_block ≡ refused (at Checksum 510)
 unfolding unchecked_block Bytes.checksum Bytes.weighted Reader.read_entry Reader.entry_checks
 unchecked-refused s = refl
 
@@ -207,12 +211,12 @@ unfolding kind_block nine_block value_block order_block unused_block key_block
 block-refusals s = record {
   short = short-refused s;
   unchecked = unchecked-refused s;
-  kind = entry-refused (83 ∷ 1 ∷ []) (omega arith) s (at 5 0) refl;
-  nine = entry-refused (67 ∷ 9 ∷ []) (omega arith) s (at 6 1) refl;
-  value = entry-refused (67 ∷ 2 ∷ 0 ∷ 0 ∷ 0 ∷ 3 ∷ 0 ∷ 1 ∷ 0 ∷ 1 ∷ 0 ∷ 0 ∷ []) (omega arith) s (at 7 10) refl;
-  order = entry-refused (80 ∷ 2 ∷ 0 ∷ 2 ∷ 0 ∷ 3 ∷ 0 ∷ 1 ∷ 0 ∷ 3 ∷ 0 ∷ 2 ∷ []) (omega arith) s (at 8 8) refl;
-  unused = entry-refused (67 ∷ 0 ∷ 0 ∷ 1 ∷ []) (omega arith) s (at 9 3) refl;
-  user_key = settings-refused (83 ∷ 65 ∷ []) (omega arith) (at 7 1) refl;
+  kind = entry-refused (83 ∷ 1 ∷ []) (omega arith) s (at Kind 0) refl;
+  nine = entry-refused (67 ∷ 9 ∷ []) (omega arith) s (at Limit 1) refl;
+  value = entry-refused (67 ∷ 2 ∷ 0 ∷ 0 ∷ 0 ∷ 3 ∷ 0 ∷ 1 ∷ 0 ∷ 1 ∷ 0 ∷ 0 ∷ []) (omega arith) s (at Range 10) refl;
+  order = entry-refused (80 ∷ 2 ∷ 0 ∷ 2 ∷ 0 ∷ 3 ∷ 0 ∷ 1 ∷ 0 ∷ 3 ∷ 0 ∷ 2 ∷ []) (omega arith) s (at Order 8) refl;
+  unused = entry-refused (67 ∷ 0 ∷ 0 ∷ 1 ∷ []) (omega arith) s (at Unused 3) refl;
+  user_key = settings-refused (83 ∷ 65 ∷ []) (omega arith) (at Range 1) refl;
 }
 
 -- ---- the list, with what its blocks are read as
@@ -240,7 +244,7 @@ three_known : List Block
 unfolding Written.valid_entry Written.valid_labels Written.in_range Reader.within
 three_known =
     block_for (container (label 3 2 ∷ [])) (λ s. refl)
-    ∷ record { bytes = unchecked_block; size = unchecked-size; read = refused (at 4 510); reads = λ s. (block-refusals s).unchecked }
+    ∷ record { bytes = unchecked_block; size = unchecked-size; read = refused (at Checksum 510); reads = λ s. (block-refusals s).unchecked }
     ∷ block_for (policy (policy_to egress (label 3 2 ∷ []) [])) (λ s. refl)
     ∷ []
 
@@ -289,14 +293,14 @@ knowns =
     ∷ call (ask (ask_user 2 65548))
     ∷ call (ask (ask_user 255 12))
     ∷ call (ask (ask_user 256 12))
-    ∷ entry short_block (refused (at 3 0)) (λ s. (block-refusals s).short)
-    ∷ entry unchecked_block (refused (at 4 510)) (λ s. (block-refusals s).unchecked)
-    ∷ entry kind_block (refused (at 5 0)) (λ s. (block-refusals s).kind)
-    ∷ entry nine_block (refused (at 6 1)) (λ s. (block-refusals s).nine)
-    ∷ entry value_block (refused (at 7 10)) (λ s. (block-refusals s).value)
-    ∷ entry order_block (refused (at 8 8)) (λ s. (block-refusals s).order)
-    ∷ entry unused_block (refused (at 9 3)) (λ s. (block-refusals s).unused)
-    ∷ settings key_block (refused (at 7 1)) (block-refusals printed_settings).user_key
+    ∷ entry short_block (refused (at BlockLength 0)) (λ s. (block-refusals s).short)
+    ∷ entry unchecked_block (refused (at Checksum 510)) (λ s. (block-refusals s).unchecked)
+    ∷ entry kind_block (refused (at Kind 0)) (λ s. (block-refusals s).kind)
+    ∷ entry nine_block (refused (at Limit 1)) (λ s. (block-refusals s).nine)
+    ∷ entry value_block (refused (at Range 10)) (λ s. (block-refusals s).value)
+    ∷ entry order_block (refused (at Order 8)) (λ s. (block-refusals s).order)
+    ∷ entry unused_block (refused (at Unused 3)) (λ s. (block-refusals s).unused)
+    ∷ settings key_block (refused (at Range 1)) (block-refusals printed_settings).user_key
     ∷ elsewhere_at 5764 refl (open_with (settings_block other_settings))
     ∷ call (ask audit)
     ∷ call (change (remove_policy 2))

@@ -5,7 +5,9 @@ use mathlib.Core.List.{List, [], ◌∷◌, ◌++◌, map, flatten}
 use Rattle.std.proofs.Math.Option.{none, some}
 use Rattle.std.proofs.lemmas.List.{length-replicate}
 use Rattle.std.proofs.lemmas.Bool.{eqb-false}
-use Rattle.block.specs.Entry.{Label, Direction, ingress, egress, Settings, Entry, container, policy}
+use Rattle.block.specs.declared.Direction.{Direction}
+use Rattle.block.specs.declared.Direction.TheVariants.{Ingress as ingress, Egress as egress}
+use Rattle.block.specs.Entry.{Label, Settings, Entry, container, policy}
 use Rattle.block.specs.Written.{sealed, block_of, settings_block}
 use Rattle.model.specs.Findings.{Place}
 use Rattle.model.specs.Findings.{finding, start}

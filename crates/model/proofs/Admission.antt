@@ -4,10 +4,11 @@ use mathlib.Core.Bool.{Bool, true, false, cond}
 use mathlib.Core.List.{List, [], ◌∷◌, ◌++◌}
 use mathlib.Core.Option.{Option, none, some}
 use Prim.Native.Nat.{ℕ}
+use Rattle.std.specs.Prelude.{Result, Ok, Err, ⊤}
+use Rattle.block.specs.declared.Refusal.{Refusal}
+use Rattle.block.specs.declared.Reason.TheVariants.{TableFull}
 use Rattle.block.specs.Entry.{Container, Policy, Entry, container, policy}
-use Rattle.block.specs.declared.Tested.{Tested}
-use Rattle.block.specs.declared.Tested.TheVariants.{Passed, Refused}
-use Rattle.block.specs.Refusal.{Check, check, first_refusal, Read, refused, accepted, read_unless}
+use Rattle.block.specs.Refusal.{reason_number, Check, check, first_refusal, Read, refused, accepted, read_unless}
 use Rattle.block.specs.Reader.{entry_checks, entry_said, read_entry}
 use Rattle.block.proofs.Checks.{append-passed, append-refused}
 use Rattle.model.specs.Table.{is_free, lowest_free}
@@ -25,7 +26,7 @@ use Rattle.model.proofs.WrittenRules.{model_book, registry_after}
 
 module _ (r : Registry) where
   abbrev admit_read : Read Entry → Registry × Answer
-  admit_read (refused f) = (r, refusal f.number)
+  admit_read (refused f) = (r, refusal (reason_number f.reason))
   admit_read (accepted e) = admit_entry r e
 
   -- with no room the search finds no slot
@@ -50,15 +51,15 @@ module _ (r : Registry) where
       read = entry_checks r.model.settings b
 
       room : List Check
-      room = check 12 (where0 (no_room r.model (entry_said b))) ∷ []
+      room = check TableFull (where0 (no_room r.model (entry_said b))) ∷ []
 
-      passed : (u : Bool) → admit_unless r b (first_refusal (check 12 (where0 u) ∷ [])) ≡ cond u (r, refusal 12) (admit_entry r (entry_said b))
+      passed : (u : Bool) → admit_unless r b (first_refusal (check TableFull (where0 u) ∷ [])) ≡ cond u (r, refusal 12) (admit_entry r (entry_said b))
       passed true = refl
       passed false = refl
 
-      pick : (o : Tested) → first_refusal read ≡ o → admit_unless r b (first_refusal (read ++ room)) ≡ admit_read (read_unless o (entry_said b))
-      pick Passed e = ap (admit_unless r b) (append-passed read room e) ∙ passed (no_room r.model (entry_said b)) ∙ room-checked (entry_said b)
-      pick (Refused f) e = ap (admit_unless r b) (append-refused read room f e)
+      pick : (o : Result ⊤ Refusal) → first_refusal read ≡ o → admit_unless r b (first_refusal (read ++ room)) ≡ admit_read (read_unless o (entry_said b))
+      pick (Ok tt) e = ap (admit_unless r b) (append-passed read room e) ∙ passed (no_room r.model (entry_said b)) ∙ room-checked (entry_said b)
+      pick (Err f) e = ap (admit_unless r b) (append-refused read room f e)
 
 -- ---- refused, or an entry comes
 
@@ -101,6 +102,6 @@ module _ (r : Registry) (b : List ℕ) where
   outcome = pick (read_entry r.model.settings b) refl
     where
       pick : (o : Read Entry) → read_entry r.model.settings b ≡ o → Outcome r b
-      pick (refused f) h = turned f.number (rw h) (block_read r b ∙ rw h)
+      pick (refused f) h = turned (reason_number f.reason) (rw h) (block_read r b ∙ rw h)
       pick (accepted (container x)) h = container-outcome x h (lowest_free r.model.containers) refl
       pick (accepted (policy p)) h = policy-outcome p h (lowest_free r.model.policies) refl

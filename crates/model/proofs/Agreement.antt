@@ -8,12 +8,11 @@ use Prim.Native.Nat.{ℕ, ◌*◌, ◌%◌}
 use lib.Dec.{eqb, leb, ltb}
 use lib.ListN.{length, length-set, length-replicate}
 use borrow.Author.Tests.{ltb-true, ltb-false, le-leb, lt-leb}
-use Rattle.block.specs.declared.Fault.{Fault}
-use Rattle.block.specs.declared.Fault.TheVariants.{Nowhere, At}
+use Rattle.std.specs.Prelude.{Option as StdOption, None, Some, Result, Ok, Err, ⊤}
+use Rattle.block.specs.declared.Refusal.{Refusal}
+use Rattle.block.specs.declared.Reason.TheVariants.{BufferLength, BatchLength}
 use Rattle.block.specs.Cut.{blocks_of}
 use Rattle.block.specs.Entry.{Container, Policy, Settings}
-use Rattle.block.specs.declared.Tested.{Tested}
-use Rattle.block.specs.declared.Tested.TheVariants.{Passed, Refused}
 use Rattle.block.specs.Refusal.{Check, check, refuse, first_refusal, read_unless}
 use Rattle.block.specs.Reader.{settings_checks, settings_said, read_settings}
 use Rattle.model.specs.declared.Tally.{Tally}
@@ -47,18 +46,18 @@ as_computed r = (computed r.0, r.1)
 -- ---- lists of checks
 
 -- the first refusal if there is one, else the second
-unfoldable pub or_refusal : Tested → Tested → Tested
-or_refusal Passed rest = rest
-or_refusal (Refused f) rest = Refused f
+unfoldable pub or_refusal : Result ⊤ Refusal → Result ⊤ Refusal → Result ⊤ Refusal
+or_refusal (Ok tt) rest = rest
+or_refusal (Err f) rest = Err f
 
 pub first-append : (cs ds : List Check) → first_refusal (cs ++ ds) ≡ or_refusal (first_refusal cs) (first_refusal ds)
 unfolding or_refusal
 first-append [] ds = refl
-first-append (c ∷ cs) ds = ap (refuse c.number c.fault) (first-append cs ds) ∙ pick c.fault
+first-append (c ∷ cs) ds = ap (refuse c.reason c.fault) (first-append cs ds) ∙ pick c.fault
   where
-    pick : (f : Fault) → refuse c.number f (or_refusal (first_refusal cs) (first_refusal ds)) ≡ or_refusal (refuse c.number f (first_refusal cs)) (first_refusal ds)
-    pick Nowhere = refl
-    pick (At p) = refl
+    pick : (f : StdOption ℕ) → refuse c.reason f (or_refusal (first_refusal cs) (first_refusal ds)) ≡ or_refusal (refuse c.reason f (first_refusal cs)) (first_refusal ds)
+    pick None = refl
+    pick (Some p) = refl
 
 module _ {A : Type 0} (r : Registry) (call : Call) (size : ℕ) (t : Table A) (whole : length t ≡ size) where
   free-within : (i : ℕ) → ltb i size ≡ true → free t i ≡ is_free (at t i)
@@ -100,16 +99,16 @@ pub admit-step : (r : Registry) (b : List ℕ) → registry_step r (change (admi
 unfolding registry_step refusals unless_refused accepted_step admit_block admit_unless
 admit-step r b = pick (first_refusal (admit_checks r.model b))
   where
-    pick : (o : Tested) → unless_refused r (change (admit b)) o ≡ admit_unless r b o
-    pick Passed = refl
-    pick (Refused f) = refl
+    pick : (o : Result ⊤ Refusal) → unless_refused r (change (admit b)) o ≡ admit_unless r b o
+    pick (Ok tt) = refl
+    pick (Err f) = refl
 
 module _ (m : Model) where
-  open-agrees : (b : List ℕ) (o : Tested)
+  open-agrees : (b : List ℕ) (o : Result ⊤ Refusal)
       → unless_refused (computed m) (open_with b) o ≡ as_computed (opening m (read_unless o (settings_said b)))
   unfolding unless_refused accepted_step opening
-  open-agrees b Passed = ap (λ r. (r, done)) (opened-computed (settings_said b))
-  open-agrees b (Refused f) = refl
+  open-agrees b (Ok tt) = ap (λ r. (r, done)) (opened-computed (settings_said b))
+  open-agrees b (Err f) = refl
 
   admit-agrees : (b : List ℕ) → admit_block (computed m) b ≡ as_computed (admitting_block m b)
   unfolding computed
@@ -133,7 +132,7 @@ not-ltb a b = pick (ltb a b) refl
 module _ (m : Model) (sized : Sized m) where
   -- by what is too long, of whole blocks, and has too little room
   batch-agrees : (bs : List ℕ) (n : ℕ) (t : Tally) (u v w : Bool)
-      → unless_refused (computed m) (change (admit_batch bs n t)) (first_refusal (check 14 (where0 (u || not v)) ∷ check 13 (where0 w) ∷ []))
+      → unless_refused (computed m) (change (admit_batch bs n t)) (first_refusal (check BatchLength (where0 (u || not v)) ∷ check BufferLength (where0 w) ∷ []))
       ≡ as_computed (cond (not u && v) (cond (not w) (batch_outcome t (run admitting_block m (blocks_of bs))) (m, refusal 13)) (m, refusal 14))
   unfolding unless_refused accepted_step
   batch-agrees bs n t true v w = refl
@@ -176,7 +175,7 @@ module _ (m : Model) (sized : Sized m) where
 
   -- a buffer of n bytes for a file of l
   write-agrees : (n l : ℕ) (t : Bool) → ltb n l ≡ t
-      → unless_refused (computed m) (ask (write n)) (first_refusal (check 13 (where0 t) ∷ []))
+      → unless_refused (computed m) (ask (write n)) (first_refusal (check BufferLength (where0 t) ∷ []))
       ≡ as_computed (m, cond (leb l n) (file_put (file_of m)) (refusal 13))
   unfolding unless_refused accepted_step answer_to computed
   write-agrees n l true e = rw (lt-leb l n (ltb-true n l e))

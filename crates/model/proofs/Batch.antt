@@ -7,9 +7,10 @@ use native.Mathlib.Omega.{arith}
 use lib.Dec.{eqb, ltb}
 use lib.ListN.{length}
 use borrow.Author.Tests.{eq-eqb, ne_eqb, lt-ltb, le-ltb}
+use Rattle.std.specs.Prelude.{Result, Ok, Err, ⊤}
+use Rattle.block.specs.declared.Refusal.{Refusal}
+use Rattle.block.specs.declared.Reason.TheVariants.{BufferLength, BatchLength}
 use Rattle.block.specs.Cut.{blocks_of}
-use Rattle.block.specs.declared.Tested.{Tested}
-use Rattle.block.specs.declared.Tested.TheVariants.{Passed, Refused}
 use Rattle.block.specs.Refusal.{check, first_refusal}
 use Rattle.model.specs.declared.Tally.{Tally}
 use Rattle.model.specs.Calls.{numbers_of, pairs_of}
@@ -20,8 +21,8 @@ use Rattle.model.specs.Refusals.{where0, batch_checks}
 
 module _ (bs : List ℕ) (n : ℕ) where
   -- by what is too long, of whole blocks, and has too little room
-  abbrev tested : Bool → Bool → Bool → Tested
-  tested u v w = first_refusal (check 14 (where0 (u || not v)) ∷ check 13 (where0 w) ∷ [])
+  abbrev tested : Bool → Bool → Bool → Result ⊤ Refusal
+  tested u v w = first_refusal (check BatchLength (where0 (u || not v)) ∷ check BufferLength (where0 w) ∷ [])
 
   abbrev long : Bool
   long = ltb 65536 (length bs)
@@ -32,13 +33,13 @@ module _ (bs : List ℕ) (n : ℕ) where
   abbrev short : Bool
   short = ltb n (2 * length (blocks_of bs))
 
-  pub batch-long : 65536 < length bs → first_refusal (batch_checks bs n) ≡ Refused (record { number = 14; position = 0 })
+  pub batch-long : 65536 < length bs → first_refusal (batch_checks bs n) ≡ Err (record { reason = BatchLength; position = 0 })
   batch-long h = ap (λ (u : Bool). tested u whole short) (lt-ltb 65536 (length bs) h)
 
-  pub batch-cut : (length bs % 512 ≡ 0 → ⊥) → first_refusal (batch_checks bs n) ≡ Refused (record { number = 14; position = 0 })
+  pub batch-cut : (length bs % 512 ≡ 0 → ⊥) → first_refusal (batch_checks bs n) ≡ Err (record { reason = BatchLength; position = 0 })
   batch-cut h =
       ap (λ (v : Bool). tested long v short) (ne_eqb (length bs % 512) 0 h)
-      ∙ ap (λ (x : Bool). first_refusal (check 14 (where0 x) ∷ check 13 (where0 short) ∷ [])) (or-true long)
+      ∙ ap (λ (x : Bool). first_refusal (check BatchLength (where0 x) ∷ check BufferLength (where0 short) ∷ [])) (or-true long)
 
   module _ (few : length bs ≤ 65536) (cut : length bs % 512 ≡ 0) where
     past-14 : (w : Bool) → short ≡ w → first_refusal (batch_checks bs n) ≡ tested false true w
@@ -47,10 +48,10 @@ module _ (bs : List ℕ) (n : ℕ) where
         ∙ ap (λ (v : Bool). tested false v short) (eq-eqb (length bs % 512) 0 cut)
         ∙ ap (tested false true) e
 
-    pub batch-short : n < 2 * length (blocks_of bs) → first_refusal (batch_checks bs n) ≡ Refused (record { number = 13; position = 0 })
+    pub batch-short : n < 2 * length (blocks_of bs) → first_refusal (batch_checks bs n) ≡ Err (record { reason = BufferLength; position = 0 })
     batch-short h = past-14 true (lt-ltb n (2 * length (blocks_of bs)) h)
 
-    pub batch-passes : 2 * length (blocks_of bs) ≤ n → first_refusal (batch_checks bs n) ≡ Passed
+    pub batch-passes : 2 * length (blocks_of bs) ≤ n → first_refusal (batch_checks bs n) ≡ Ok tt
     batch-passes h = past-14 false (le-ltb n (2 * length (blocks_of bs)) h)
 
 -- ---- numbers and pairs

@@ -1,6 +1,6 @@
 -- A book's changes keep the laws of the theory.
 use mathlib.Core.Path.{◌≡◌, refl, ap, ◌∙◌}
-use mathlib.Core.Bool.{Bool, false, ◌||◌}
+use mathlib.Core.Bool.{false}
 use mathlib.Core.Option.{Option, none, some}
 use Prim.Native.Nat.{ℕ}
 use lib.Dec.{eqb}
@@ -11,7 +11,7 @@ use Rattle.block.specs.Entry.{Container}
 use Rattle.model.specs.Table.{Table, on, at}
 use Rattle.model.proofs.Lists.{neither}
 use Rattle.model.proofs.Changes.{Lawful}
-use Rattle.model.proofs.Book.{Rules, LawfulRules, Book, BookLaws, BitPlace, matrix, selected, allowed, EntryChange, container_becomes, policy_becomes}
+use Rattle.model.proofs.Book.{Book, BookLaws, BitPlace, matrix, selected, allowed, EntryChange, container_becomes, policy_becomes}
 use Rattle.model.proofs.Book.{put_entry, bit_by_rules, touched_by, book_changes, Fitting}
 
 module _ {S P : Type 0} (B : Book S P) where

@@ -6,7 +6,9 @@ use mathlib.Core.Option.{Option, none, some}
 use Prim.Native.Nat.{ℕ}
 use lib.Dec.{eqb}
 use borrow.Author.Tests.{eqb-true, eqb-false, eq-eqb, ne_eqb}
-use Rattle.block.specs.Entry.{Container, Direction, ingress, egress, Policy}
+use Rattle.block.specs.declared.Direction.{Direction}
+use Rattle.block.specs.declared.Direction.TheVariants.{Ingress as ingress, Egress as egress}
+use Rattle.block.specs.Entry.{Container, Policy}
 use Rattle.model.specs.Table.{any, on, at, stands}
 use Rattle.model.specs.Rules.{selects, same_direction}
 use Rattle.model.specs.Model.{Model}

@@ -9,7 +9,9 @@ use native.Mathlib.Nat.{not-suc-le-zero, le_of_suc-le-suc, sub-zero, suc-sub-suc
 use native.Mathlib.Omega.{arith}
 use lib.ListN.{length, get_or, set, replicate, length-append}
 use lib.Seq.{append_snoc}
-use Rattle.block.specs.Entry.{Container, Direction, egress, ingress, Policy, container, policy}
+use Rattle.block.specs.declared.Direction.{Direction}
+use Rattle.block.specs.declared.Direction.TheVariants.{Egress as egress, Ingress as ingress}
+use Rattle.block.specs.Entry.{Container, Policy, container, policy}
 use Rattle.block.specs.Written.{block_of, settings_block}
 use Rattle.model.specs.Table.{Table, any, on, at, standing, standing_from, next, lowest_free, up_from}
 use Rattle.model.specs.Rules.{same_direction, selects, allows, some_selects, some_allows, permits, reaches}

@@ -11,7 +11,7 @@ use Rattle.model.specs.declared.Finding.{Finding}
 use Rattle.model.specs.Findings.{Place}
 use Rattle.model.specs.Table.{any, count}
 use Rattle.model.specs.Model.{Model, Bits}
-use Rattle.model.specs.Findings.{finding, Kind, kinds, row_of, of_kind, of_kinds, findings, shown, place_of, after, needless, irrelevance}
+use Rattle.model.specs.Findings.{finding, Section, kinds, row_of, of_kind, of_kinds, findings, shown, place_of, after, needless, irrelevance}
 use Rattle.model.proofs.Lists.{either, neither, denied, elem, Up, standing-up, elem-standing}
 use Rattle.model.proofs.Lists.{All, Sorted, all_of, all_map, all_append, all-cond, sorted-append, sorted_cond, any_append, any-cond}
 
@@ -44,11 +44,11 @@ all_listed P g [] t h = absurd (false≢true h)
 all_listed P g (x ∷ l) t h = either (same g x) (member g l) (λ e. subst P (sym (same-eq g x e)) t.0) (all_listed P g l t.1) h
 
 -- g is of kind x, whose number is k
-abbrev pub is_of : ℕ → Kind → Finding → Bool
+abbrev pub is_of : ℕ → Section → Finding → Bool
 is_of k x g = eqb g.kind k && (elem g.a x.firsts && (elem g.b x.seconds && x.holds g.a g.b))
 
 -- g is of one of these kinds, the first of which is number k
-abbrev pub is_of_one : ℕ → List Kind → Finding → Bool
+abbrev pub is_of_one : ℕ → List Section → Finding → Bool
 is_of_one k [] g = false
 is_of_one k (x ∷ xs) g = is_of k x g || is_of_one (suc k) xs g
 
@@ -78,7 +78,7 @@ module _ (g : Finding) where
       ∙ simp (and-or_distrib_right, and-or_distrib_left)
 
   -- Those listed of a list of kinds are those of one of them
-  kinds-listed : (k : ℕ) (xs : List Kind) → member g (of_kinds k xs) ≡ is_of_one k xs g
+  kinds-listed : (k : ℕ) (xs : List Section) → member g (of_kinds k xs) ≡ is_of_one k xs g
   kinds-listed k [] = refl
   kinds-listed k (x ∷ xs) =
       any_append (same g) (of_kind k x.holds x.firsts x.seconds) (of_kinds (suc k) xs)
@@ -190,20 +190,20 @@ module _ (k : ℕ) (f : ℕ → ℕ → Bool) where
       (λ b. kind-all (After (finding k a b)) k f (λ y. a < y) (λ y z h. rw after-lex (lex-same k _ (lex-lt a y _ h))) l bs s.0) bs)
 
 -- what a and b can be rises
-abbrev pub UpKind : Kind → Type 0
+abbrev pub UpKind : Section → Type 0
 UpKind x = Up x.firsts × Up x.seconds
 
 -- of kind k or a later one
 abbrev pub FromKind : ℕ → Finding → Type 0
 FromKind k g = k ≤ g.kind
 
-kinds-from : (j k : ℕ) (xs : List Kind) → j ≤ k → All (FromKind j) (of_kinds k xs)
+kinds-from : (j k : ℕ) (xs : List Section) → j ≤ k → All (FromKind j) (of_kinds k xs)
 kinds-from j k [] h = tt
 kinds-from j k (x ∷ xs) h =
     all_append (FromKind j) (of_kind k x.holds x.firsts x.seconds) (of_kinds (suc k) xs)
     (kind-each (FromKind j) k x.holds (λ a b. h) x.firsts x.seconds) (kinds-from j (suc k) xs (omega arith))
 
-kinds-rising : (k : ℕ) (xs : List Kind) → All UpKind xs → Rising (of_kinds k xs)
+kinds-rising : (k : ℕ) (xs : List Section) → All UpKind xs → Rising (of_kinds k xs)
 kinds-rising k [] t = tt
 kinds-rising k (x ∷ xs) t =
     let rest = of_kinds (suc k) xs in

@@ -9,13 +9,11 @@ use native.Mathlib.Omega.{arith}
 use lib.Dec.{T}
 use lib.ListN.{length}
 use borrow.Author.Tests.{leb-false}
-use Rattle.block.specs.declared.Fault.{Fault}
-use Rattle.block.specs.declared.Fault.TheVariants.{Nowhere, At}
-use Rattle.block.specs.Fault.{clear}
+use Rattle.std.specs.Prelude.{Option as StdOption, None, Some, Result, Ok, Err, ⊤, is_none}
+use Rattle.block.specs.declared.Reason.{Reason}
+use Rattle.block.specs.declared.Reason.TheVariants.{BeyondTable, FreeSlot, TableFull}
 use Rattle.block.specs.declared.Refusal.{Refusal}
-use Rattle.block.specs.declared.Tested.{Tested}
-use Rattle.block.specs.declared.Tested.TheVariants.{Passed, Refused}
-use Rattle.block.specs.Refusal.{Check, check, refuse, first_refusal}
+use Rattle.block.specs.Refusal.{reason_number, Check, check, refuse, first_refusal}
 use Rattle.block.specs.Entry.{Container, Policy, Entry, container, policy}
 use Rattle.block.specs.Reader.{entry_checks, entry_said}
 use Rattle.model.specs.declared.Finding.{Finding}
@@ -33,57 +31,75 @@ use Rattle.model.specs.RegistryStep.{admit_container, admit_policy, admit_entry,
 use Rattle.model.proofs.Tables.{full-lowest, free-at}
 use Rattle.model.proofs.Agreement.{Sized, or_refusal, first-append, step-agrees}
 
-abbrev the_refusal : ℕ → ℕ → Refusal
-the_refusal n p = record { number = n; position = p }
+abbrev the_refusal : Reason → ℕ → Refusal
+the_refusal w p = record { reason = w; position = p }
 
-to : (cs : List Check) (n p : ℕ) → first_refusal cs ≡ Refused (the_refusal n p) → Refuses cs n p
-to [] n p e = let z : ◌≡◌ {A = ℕ} 0 1 = cc in absurd (omega arith)
-to (c ∷ cs) n p e = pick c.fault refl e (to cs n p)
+-- the first refusal of a list: it has number n, and is at p
+pub record FirstRefused (cs : List Check) (n p : ℕ) : Type 0 where
+  pub reason : Reason
+  pub numbered : reason_number reason ≡ n
+  pub first : first_refusal cs ≡ Err (the_refusal reason p)
+
+to : (cs : List Check) (w : Reason) (p : ℕ) → first_refusal cs ≡ Err (the_refusal w p) → Refuses cs (reason_number w) p
+to [] w p e = let z : ◌≡◌ {A = ℕ} 0 1 = cc in absurd (omega arith)
+to (c ∷ cs) w p e = pick c.fault refl e (to cs w p)
   where
-    pick : (f : Fault) → c.fault ≡ f → refuse c.number f (first_refusal cs) ≡ Refused (the_refusal n p)
-        → (first_refusal cs ≡ Refused (the_refusal n p) → Refuses cs n p) → Refuses (c ∷ cs) n p
-    pick (At q) h e ih =
-        let s : the_refusal c.number q ≡ the_refusal n p = cc in
+    pick : (f : StdOption ℕ) → c.fault ≡ f → refuse c.reason f (first_refusal cs) ≡ Err (the_refusal w p)
+        → (first_refusal cs ≡ Err (the_refusal w p) → Refuses cs (reason_number w) p) → Refuses (c ∷ cs) (reason_number w) p
+    pick (Some q) h e ih =
+        let s : the_refusal c.reason q ≡ the_refusal w p = cc in
         record {
+          reason = w;
+          numbered = refl;
           before = [];
           after = cs;
-          met = ap (λ f. check c.number f ∷ cs) h ∙ ap (λ f. check f.number (At f.position) ∷ cs) s;
+          met = ap (λ f. check c.reason f ∷ cs) h ∙ ap (λ f. check f.reason (Some f.position) ∷ cs) s;
           passed = refl;
         }
-    pick Nowhere h e ih =
+    pick None h e ih =
         let s = ih e in
-        record { before = c ∷ s.before; after = s.after; met = ap (λ l. c ∷ l) s.met; passed = ap₂ ◌&&◌ (ap clear h) s.passed }
+        record {
+          reason = s.reason;
+          numbered = s.numbered;
+          before = c ∷ s.before;
+          after = s.after;
+          met = ap (λ l. c ∷ l) s.met;
+          passed = ap₂ ◌&&◌ (ap is_none h) s.passed;
+        }
 
-from : (before after : List Check) (n p : ℕ) → all (λ c. clear c.fault) before ≡ true
-    → first_refusal (before ++ (check n (At p) ∷ after)) ≡ Refused (the_refusal n p)
-from [] after n p e = refl
-from (c ∷ cs) after n p e = pick c.fault e (from cs after n p)
+from : (before after : List Check) (w : Reason) (p : ℕ) → all (λ c. is_none c.fault) before ≡ true
+    → first_refusal (before ++ (check w (Some p) ∷ after)) ≡ Err (the_refusal w p)
+from [] after w p e = refl
+from (c ∷ cs) after w p e = pick c.fault e (from cs after w p)
   where
-    pick : (f : Fault) → (clear f && all (λ c. clear c.fault) cs) ≡ true
-        → (all (λ c. clear c.fault) cs ≡ true → first_refusal (cs ++ (check n (At p) ∷ after)) ≡ Refused (the_refusal n p))
-        → refuse c.number f (first_refusal (cs ++ (check n (At p) ∷ after))) ≡ Refused (the_refusal n p)
-    pick Nowhere e ih = ih e
-    pick (At q) e ih = absurd (subst T (sym e) tt)
+    pick : (f : StdOption ℕ) → (is_none f && all (λ c. is_none c.fault) cs) ≡ true
+        → (all (λ c. is_none c.fault) cs ≡ true → first_refusal (cs ++ (check w (Some p) ∷ after)) ≡ Err (the_refusal w p))
+        → refuse c.reason f (first_refusal (cs ++ (check w (Some p) ∷ after))) ≡ Err (the_refusal w p)
+    pick None e ih = ih e
+    pick (Some q) e ih = absurd (subst T (sym e) tt)
 
 -- Of every list of checks.
-pub first-exactly : (cs : List Check) (n p : ℕ) → (first_refusal cs ≡ Refused (the_refusal n p)) ↔ Refuses cs n p
-first-exactly cs n p = (to cs n p, λ s. ap first_refusal s.met ∙ from s.before s.after n p s.passed)
+pub first-exactly : (cs : List Check) (n p : ℕ) → FirstRefused cs n p ↔ Refuses cs n p
+first-exactly cs n p = (
+  λ r. subst (λ k. Refuses cs k p) r.numbered (to cs r.reason p r.first),
+  λ s. record { reason = s.reason; numbered = s.numbered; first = ap first_refusal s.met ∙ from s.before s.after s.reason p s.passed },
+)
 
 -- ---- a call that no check refuses answers no refusal
 
 -- a condition that gives no refusal does not hold
-passed-false : (n : ℕ) (u : Bool) (o : Tested) → refuse n (where0 u) o ≡ Passed → (u ≡ false) × (o ≡ Passed)
-passed-false n true o e = let z : ◌≡◌ {A = ℕ} 0 1 = cc in absurd (omega arith)
-passed-false n false o e = (refl, e)
+passed-false : (w : Reason) (u : Bool) (o : Result ⊤ Refusal) → refuse w (where0 u) o ≡ Ok tt → (u ≡ false) × (o ≡ Ok tt)
+passed-false w true o e = let z : ◌≡◌ {A = ℕ} 0 1 = cc in absurd (omega arith)
+passed-false w false o e = (refl, e)
 
 -- checks that give no refusal: neither the first of them nor the last give one
-pub both-passed : (cs ds : List Check) → first_refusal (cs ++ ds) ≡ Passed → (first_refusal cs ≡ Passed) × (first_refusal ds ≡ Passed)
+pub both-passed : (cs ds : List Check) → first_refusal (cs ++ ds) ≡ Ok tt → (first_refusal cs ≡ Ok tt) × (first_refusal ds ≡ Ok tt)
 unfolding or_refusal
 both-passed cs ds e = pick (first_refusal cs) (sym (first-append cs ds) ∙ e)
   where
-    pick : (o : Tested) → or_refusal o (first_refusal ds) ≡ Passed → (o ≡ Passed) × (first_refusal ds ≡ Passed)
-    pick Passed e = (refl, e)
-    pick (Refused f) e = let z : ◌≡◌ {A = ℕ} 0 1 = cc in absurd (omega arith)
+    pick : (o : Result ⊤ Refusal) → or_refusal o (first_refusal ds) ≡ Ok tt → (o ≡ Ok tt) × (first_refusal ds ≡ Ok tt)
+    pick (Ok tt) e = (refl, e)
+    pick (Err f) e = let z : ◌≡◌ {A = ℕ} 0 1 = cc in absurd (omega arith)
 
 module _ (r : Registry) (sized : Sized r.model) where
   placed : (x : Container) (o : Option ℕ) → is_free o ≡ false → (said (admit_container r x o).1).refused ≡ none
@@ -107,22 +123,22 @@ module _ (r : Registry) (sized : Sized r.model) where
   taken q (some p) e = refl
 
   -- a slot that no check refuses holds an entry
-  holds-entry : (q : ℕ) → first_refusal (slot_checks policy_slots r.model.policies q) ≡ Passed → is_free (at r.model.policies q) ≡ false
+  holds-entry : (q : ℕ) → first_refusal (slot_checks policy_slots r.model.policies q) ≡ Ok tt → is_free (at r.model.policies q) ≡ false
   holds-entry q e =
-      let h = passed-false 10 (beyond policy_slots q) _ e in
+      let h = passed-false BeyondTable (beyond policy_slots q) _ e in
       let l : q < length r.model.policies = rw sized.policies (leb-false policy_slots q h.0) in
-      sym (free-at r.model.policies q l) ∙ (passed-false 11 (free r.model.policies q) Passed h.1).0
+      sym (free-at r.model.policies q l) ∙ (passed-false FreeSlot (free r.model.policies q) (Ok tt) h.1).0
 
   next-answer : (o : Option Finding) → (said (found_answer o)).refused ≡ none
   next-answer none = refl
   next-answer (some g) = refl
 
-  pub accepted-answers : (call : Call) → first_refusal (refusals r call) ≡ Passed → (said (accepted_step r call).1).refused ≡ none
+  pub accepted-answers : (call : Call) → first_refusal (refusals r call) ≡ Ok tt → (said (accepted_step r call).1).refused ≡ none
   unfolding accepted_step answer_to refusals admit_checks batch_answer
   accepted-answers (open_with b) e = refl
   accepted-answers (change (admit b)) e =
       admitted (entry_said b)
-      (passed-false 12 (no_room r.model (entry_said b)) Passed (both-passed (entry_checks r.model.settings b) _ e).1).0
+      (passed-false TableFull (no_room r.model (entry_said b)) (Ok tt) (both-passed (entry_checks r.model.settings b) _ e).1).0
   accepted-answers (change (admit_batch bs n t)) e = refl
   accepted-answers (change (remove_container c)) e = refl
   accepted-answers (change (remove_policy q)) e = taken q (at r.model.policies q) (holds-entry q e)
@@ -135,14 +151,14 @@ module _ (r : Registry) (sized : Sized r.model) where
   accepted-answers (ask audit) e = refl
   accepted-answers (ask (write n)) e = refl
 
-  answered : (call : Call) (n : ℕ) (o : Tested) → first_refusal (refusals r call) ≡ o → (unless_refused r call o).1 ≡ refusal n
-      → (p : ℕ) × (first_refusal (refusals r call) ≡ Refused (the_refusal n p))
+  answered : (call : Call) (n : ℕ) (o : Result ⊤ Refusal) → first_refusal (refusals r call) ≡ o → (unless_refused r call o).1 ≡ refusal n
+      → (p : ℕ) × FirstRefused (refusals r call) n p
   unfolding unless_refused
-  answered call n Passed h e =
+  answered call n (Ok tt) h e =
       let a : some n ≡ none = sym (ap (λ x. (said x).refused) e) ∙ accepted-answers call h in
       let z : ◌≡◌ {A = ℕ} 0 1 = cc in
       absurd (omega arith)
-  answered call n (Refused f) h e = let s : f.number ≡ n = cc in (f.position, h ∙ ap (λ k. Refused (the_refusal k f.position)) s)
+  answered call n (Err f) h e = let s : reason_number f.reason ≡ n = cc in (f.position, record { reason = f.reason; numbered = s; first = h })
 
   -- Refused with n: exactly if n's condition holds and no earlier one that the call meets does.
   pub refused-exactly : (call : Call) (n : ℕ) → ((registry_step r call).1 ≡ refusal n) ↔ ((p : ℕ) × Refuses (refusals r call) n p)
@@ -150,7 +166,8 @@ module _ (r : Registry) (sized : Sized r.model) where
   refused-exactly call n = (
     λ e. let s = answered call n (first_refusal (refusals r call)) refl e in
         (s.0, (first-exactly (refusals r call) n s.0).0 s.1),
-    λ s. ap (λ o. (unless_refused r call o).1) ((first-exactly (refusals r call) n s.0).1 s.1),
+    λ s. let f = (first-exactly (refusals r call) n s.0).1 s.1 in
+        ap (λ o. (unless_refused r call o).1) f.first ∙ ap refusal f.numbered,
   )
 
 -- The same of the model.

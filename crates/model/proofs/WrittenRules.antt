@@ -5,7 +5,9 @@ use mathlib.Core.List.{List, [], ◌∷◌}
 use mathlib.Core.Option.{Option, none, some}
 use Prim.Native.Nat.{ℕ, zero, suc}
 use lib.ListN.{get_or, set}
-use Rattle.block.specs.Entry.{Container, Direction, ingress, egress, Policy}
+use Rattle.block.specs.declared.Direction.{Direction}
+use Rattle.block.specs.declared.Direction.TheVariants.{Ingress as ingress, Egress as egress}
+use Rattle.block.specs.Entry.{Container, Policy}
 use Rattle.model.specs.Table.{Table, any, on, at}
 use Rattle.model.specs.Rules.{selects, allows, same_direction, some_selects, some_allows, permits, reaches}
 use Rattle.model.specs.Model.{Model, with_container, with_policy, matrix_bit, selected_bit, allowed_bit, computed_bits}

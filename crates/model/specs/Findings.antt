@@ -84,14 +84,14 @@ module _ (m : Model) (s : Bits) where
 
 -- ---- the list: "Order: kind, then a, then b."
 
--- A kind: the numbers that a and b can be, rising, and when a pair of them is a finding.
-pub record Kind : Type 0 where
+-- What a kind lists: the numbers that a and b can be, rising, and when a pair of them is a finding.
+pub record Section : Type 0 where
   pub firsts : List ℕ
   pub seconds : List ℕ
   pub holds : ℕ → ℕ → Bool
 
 -- kinds 1 to 7
-unfoldable pub kinds : Model → Bits → List Kind
+unfoldable pub kinds : Model → Bits → List Section
 kinds m s =
     record { firsts = containers_of m; seconds = 0 ∷ []; holds = λ a b. all_reachable m s a }
     ∷ record { firsts = containers_of m; seconds = 0 ∷ []; holds = λ a b. all_isolated m s a }
@@ -113,7 +113,7 @@ of_kind k f [] bs = []
 of_kind k f (a ∷ l) bs = row_of k f a bs ++ of_kind k f l bs
 
 -- those of all kinds, the first of which is number k
-abbrev pub of_kinds : ℕ → List Kind → List Finding
+abbrev pub of_kinds : ℕ → List Section → List Finding
 of_kinds k [] = []
 of_kinds k (x ∷ xs) = of_kind k x.holds x.firsts x.seconds ++ of_kinds (suc k) xs
 

@@ -4,6 +4,7 @@ pub mod Lowest
 pub mod Rules
 pub mod Model
 pub mod Findings
+pub mod Kinds
 pub mod Calls
 pub mod Batch
 pub mod File

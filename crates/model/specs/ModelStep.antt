@@ -3,7 +3,7 @@ use Rattle.std.specs.Prelude.{true, ◌&&◌, cond, List, ℕ, ◌*◌, ◌%◌,
 use Rattle.std.proofs.Math.Option.{Option, none, some}
 use Rattle.block.specs.Cut.{blocks_of}
 use Rattle.block.specs.Entry.{Container, Policy, Settings, Entry, container, policy}
-use Rattle.block.specs.Refusal.{Read, refused, accepted}
+use Rattle.block.specs.Refusal.{reason_number, Read, refused, accepted}
 use Rattle.block.specs.Reader.{read_settings, read_entry}
 use Rattle.model.specs.declared.Tally.{Tally}
 use Rattle.model.specs.Table.{at, lowest_free}
@@ -19,7 +19,7 @@ use Rattle.model.specs.File.{file_of}
 module _ (m : Model) where
   -- "Open sets new settings and empties all places."
   unfoldable pub opening : Read Settings → Model × Answer
-  opening (refused r) = (m, refusal r.number)
+  opening (refused r) = (m, refusal (reason_number r.reason))
   opening (accepted s) = (empty s, done)
 
   -- "Admit puts the entry at the lowest empty place of its table and gives that place."
@@ -32,7 +32,7 @@ module _ (m : Model) where
   placing_policy p (some q) = (with_policy m q (some p), policy_at q)
 
   unfoldable pub admitting : Read Entry → Model × Answer
-  admitting (refused r) = (m, refusal r.number)
+  admitting (refused r) = (m, refusal (reason_number r.reason))
   admitting (accepted (container x)) = placing x (lowest_free m.containers)
   admitting (accepted (policy p)) = placing_policy p (lowest_free m.policies)
 

@@ -2,7 +2,8 @@
 use Rattle.std.specs.Prelude.{◌≡◌, Bool, true, false, ◌&&◌, ◌||◌, cond, ℕ, ◌<◌, eqb}
 use Rattle.std.specs.Bool.{beq}
 use Rattle.std.proofs.Math.Option.{Option}
-use Rattle.block.specs.Entry.{Container, ingress, egress, Policy, Settings}
+use Rattle.block.specs.declared.Direction.TheVariants.{Ingress as ingress, Egress as egress}
+use Rattle.block.specs.Entry.{Container, Policy, Settings}
 use Rattle.model.specs.Table.{all, on, at, stands, below}
 use Rattle.model.specs.Rules.{selects, same_direction}
 use Rattle.model.specs.Model.{container_slots, policy_slots, Model, empty, with_container, with_policy, Bits, computed_bits}

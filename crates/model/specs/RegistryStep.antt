@@ -1,11 +1,11 @@
 -- The registry's step: the refusals that the call meets, then what it does to entries and stored bits.
 use Rattle.std.specs.Prelude.{List, ℕ, length}
 use Rattle.std.proofs.Math.Option.{Option, none, some}
+use Rattle.std.specs.Prelude.{Result, Ok, Err, ⊤}
+use Rattle.block.specs.declared.Refusal.{Refusal}
 use Rattle.block.specs.Cut.{blocks_of}
 use Rattle.block.specs.Entry.{Container, Policy, Entry, container, policy}
-use Rattle.block.specs.declared.Tested.{Tested}
-use Rattle.block.specs.declared.Tested.TheVariants.{Passed, Refused}
-use Rattle.block.specs.Refusal.{first_refusal}
+use Rattle.block.specs.Refusal.{reason_number, first_refusal}
 use Rattle.block.specs.Reader.{settings_said, entry_said}
 use Rattle.model.specs.Table.{on, at, lowest_free}
 use Rattle.model.specs.Rules.{carries}
@@ -32,9 +32,9 @@ module _ (r : Registry) where
   admit_entry (container x) = admit_container x (lowest_free r.model.containers)
   admit_entry (policy p) = admit_policy p (lowest_free r.model.policies)
 
-  unfoldable pub admit_unless : List ℕ → Tested → Registry × Answer
-  admit_unless b Passed = admit_entry (entry_said b)
-  admit_unless b (Refused f) = (r, refusal f.number)
+  unfoldable pub admit_unless : List ℕ → Result ⊤ Refusal → Registry × Answer
+  admit_unless b (Ok tt) = admit_entry (entry_said b)
+  admit_unless b (Err f) = (r, refusal (reason_number f.reason))
 
   unfoldable pub take_policy : ℕ → Option Policy → Registry × Answer
   take_policy q none = (r, refusal 11)
@@ -67,9 +67,9 @@ module _ (r : Registry) where
   accepted_step (ask q) = (r, answer_to r q)
 
   -- refused, the call returns the number alone and changes nothing
-  unfoldable pub unless_refused : Call → Tested → Registry × Answer
-  unless_refused call Passed = accepted_step call
-  unless_refused call (Refused f) = (r, refusal f.number)
+  unfoldable pub unless_refused : Call → Result ⊤ Refusal → Registry × Answer
+  unless_refused call (Ok tt) = accepted_step call
+  unless_refused call (Err f) = (r, refusal (reason_number f.reason))
 
 unfoldable pub registry_step : Registry → Call → Registry × Answer
 registry_step r call = unless_refused r call (first_refusal (refusals r call))

@@ -1,6 +1,8 @@
 -- The written rules.
 use Rattle.std.specs.Prelude.{Bool, true, false, not, ◌&&◌, ◌||◌, List, eqb}
-use Rattle.block.specs.Entry.{Label, Container, Direction, ingress, egress, Policy}
+use Rattle.block.specs.declared.Direction.{Direction}
+use Rattle.block.specs.declared.Direction.TheVariants.{Ingress as ingress, Egress as egress}
+use Rattle.block.specs.Entry.{Label, Container, Policy}
 use Rattle.model.specs.Table.{Table, any, all, on}
 
 -- the label itself, key and value

@@ -1,6 +1,7 @@
 -- What containers and policies that came touch, set once by the rules from the entries as they stand.
 use Rattle.std.specs.Prelude.{Bool, ◌&&◌, ◌||◌, ℕ}
-use Rattle.block.specs.Entry.{Direction, ingress, egress}
+use Rattle.block.specs.declared.Direction.{Direction}
+use Rattle.block.specs.declared.Direction.TheVariants.{Ingress as ingress, Egress as egress}
 use Rattle.model.specs.Table.{any, on, at, stands}
 use Rattle.model.specs.Rules.{selects, same_direction}
 use Rattle.model.specs.Model.{Model, computed_bits}

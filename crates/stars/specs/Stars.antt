@@ -2,9 +2,11 @@
 use Rattle.std.specs.Prelude.{◌≡◌, Bool, true, false, not, ◌&&◌, List, [], ◌∷◌, ℕ, ◌-◌, eqb, replicate}
 use Rattle.std.specs.Bool.{beq}
 use Rattle.std.proofs.Math.Option.{none, some}
-use Rattle.block.specs.Entry.{Label, Container, Direction, ingress, egress, Policy, Settings, Entry}
+use Rattle.block.specs.declared.Direction.{Direction}
+use Rattle.block.specs.declared.Direction.TheVariants.{Ingress as ingress, Egress as egress}
+use Rattle.block.specs.Entry.{Label, Container, Policy, Settings, Entry}
 use Rattle.block.specs.Bytes.{checksum}
-use Rattle.block.specs.Refusal.{Read, refused, accepted}
+use Rattle.block.specs.Refusal.{reason_number, Read, refused, accepted}
 use Rattle.block.specs.Reader.{read_entry}
 use Rattle.block.specs.Written.{sealed}
 use Rattle.model.specs.declared.Finding.{Finding}
@@ -58,7 +60,7 @@ same_rows m (a ∷ l) [] = false
 same_rows m (a ∷ l) (r ∷ rs) = same_numbers (filter (matrix_bit m a) (containers_of m)) r && same_rows m l rs
 
 abbrev pub refused_at : ℕ → ℕ → Read Entry → Bool
-refused_at n p (refused f) = eqb f.number n && eqb f.position p
+refused_at n p (refused f) = eqb (reason_number f.reason) n && eqb f.position p
 refused_at n p (accepted e) = false
 
 -- a registry whose stored bits are all t

@@ -1,32 +1,27 @@
 -- The numbers of the checks that a call meets are document 01's, in its order: each list computes. None of them is 0.
-use mathlib.Core.Path.{◌≡◌, refl, ap, subst, ◌∙◌}
-use mathlib.Core.Bool.{true, and-eq-true_iff}
-use mathlib.Core.List.{List, [], ◌∷◌, map}
+use mathlib.Core.Path.{◌≡◌, refl}
+use mathlib.Core.List.{List, map}
 use mathlib.Core.Option.{Option, none, some}
-use Prim.Native.Nat.{ℕ, ◌<◌}
+use Prim.Native.Nat.{ℕ}
 use native.Mathlib.Omega.{arith}
-use lib.Dec.{ltb}
-use borrow.Author.Tests.{ltb-true}
+use Rattle.std.specs.Prelude.{Result, Ok, Err, ⊤}
 use Rattle.block.specs.Entry.{Container, Policy, Entry, container, policy}
-use Rattle.block.specs.declared.Fault.{Fault}
-use Rattle.block.specs.declared.Fault.TheVariants.{Nowhere, At}
 use Rattle.block.specs.declared.Refusal.{Refusal}
-use Rattle.block.specs.declared.Tested.{Tested}
-use Rattle.block.specs.declared.Tested.TheVariants.{Passed, Refused}
-use Rattle.block.specs.Refusal.{Check, refuse, first_refusal}
+use Rattle.block.specs.Refusal.{reason_number, first_refusal}
 use Rattle.block.specs.Reader.{settings_checks, entry_checks, entry_said}
-use Rattle.model.specs.Table.{all, lowest_free}
+use Rattle.model.specs.Table.{lowest_free}
 use Rattle.model.specs.Calls.{ask_reaches, ask_user, next_finding, list_findings, counts, audit, write}
 use Rattle.model.specs.Calls.{Call, open_with, change, admit, admit_batch, remove_container, remove_policy, rebuild, ask, said}
 use Rattle.model.specs.Refusals.{admit_checks, refusals}
 use Rattle.model.specs.Registry.{Registry}
 use Rattle.model.specs.RegistryStep.{admit_container, admit_policy, admit_entry, accepted_step}
 use Rattle.formed.specs.Registry.{registry_in}
+use Rattle.block.proofs.Checks.{reason-positive}
 use Rattle.steps.specs.MemoryStep.{memory_refusals, memory_outcome, memory_step}
 use Rattle.steps.specs.NumbersMet.{numbers_met}
 
 -- Every call meets the refusals that document 01 names for it, in the order of their numbers.
-pub numbers-met : (m : List ℕ) (call : Call) → map (λ c. c.number) (memory_refusals m call) ≡ numbers_met call
+pub numbers-met : (m : List ℕ) (call : Call) → map (λ c. reason_number c.reason) (memory_refusals m call) ≡ numbers_met call
 unfolding memory_refusals refusals admit_checks settings_checks entry_checks
 numbers-met m (open_with b) = refl
 numbers-met m (change (admit b)) = refl
@@ -43,37 +38,6 @@ numbers-met m (ask audit) = refl
 numbers-met m (ask (write n)) = refl
 
 -- ---- a refusal's number is not 0
-
-numbers-positive : (call : Call) → all (ltb 0) (numbers_met call) ≡ true
-numbers-positive (open_with b) = refl
-numbers-positive (change (admit b)) = refl
-numbers-positive (change (admit_batch bs n t)) = refl
-numbers-positive (change (remove_container c)) = refl
-numbers-positive (change (remove_policy q)) = refl
-numbers-positive (change rebuild) = refl
-numbers-positive (ask (ask_reaches a b)) = refl
-numbers-positive (ask (ask_user c v)) = refl
-numbers-positive (ask (next_finding c)) = refl
-numbers-positive (ask (list_findings c n)) = refl
-numbers-positive (ask counts) = refl
-numbers-positive (ask audit) = refl
-numbers-positive (ask (write n)) = refl
-
-first-positive : (cs : List Check) → all (ltb 0) (map (λ c. c.number) cs) ≡ true → (f : Refusal) → first_refusal cs ≡ Refused f → 0 < f.number
-first-positive [] t f e = let z : ◌≡◌ {A = ℕ} 0 1 = cc in absurd (omega arith)
-first-positive (c ∷ cs) t f e = pick c.fault e (first-positive cs h.1 f)
-  where
-    h : (ltb 0 c.number ≡ true) × (all (ltb 0) (map (λ c. c.number) cs) ≡ true)
-    h = (and-eq-true_iff (ltb 0 c.number) (all (ltb 0) (map (λ c. c.number) cs))).0 t
-
-    pick : (x : Fault) → refuse c.number x (first_refusal cs) ≡ Refused f → (first_refusal cs ≡ Refused f → 0 < f.number) → 0 < f.number
-    pick Nowhere e ih = ih e
-    pick (At p) e ih =
-        let s : record { number = c.number; position = p } ≡ f = cc in
-        subst (λ r. 0 < r.number) s (ltb-true 0 c.number h.0)
-
-pub refusal-positive : (m : List ℕ) (call : Call) (f : Refusal) → first_refusal (memory_refusals m call) ≡ Refused f → 0 < f.number
-refusal-positive m call f e = first-positive (memory_refusals m call) (ap (all (ltb 0)) (numbers-met m call) ∙ numbers-positive call) f e
 
 -- a refusal, where there is one, is not 0
 abbrev pub Positive : Option ℕ → Type 0
@@ -104,6 +68,6 @@ pub admit-positive : (m b : List ℕ) → Positive (said (memory_step m (change 
 unfolding memory_step accepted_step
 admit-positive m b = pick (first_refusal (memory_refusals m (change (admit b)))) refl
   where
-    pick : (t : Tested) → first_refusal (memory_refusals m (change (admit b))) ≡ t → Positive (said (memory_outcome m (change (admit b)) t).1).refused
-    pick Passed e = entry-positive (registry_in m) (entry_said b)
-    pick (Refused f) e = λ z. let h = refusal-positive m (change (admit b)) f e in omega (arith, h, z)
+    pick : (t : Result ⊤ Refusal) → first_refusal (memory_refusals m (change (admit b))) ≡ t → Positive (said (memory_outcome m (change (admit b)) t).1).refused
+    pick (Ok tt) e = entry-positive (registry_in m) (entry_said b)
+    pick (Err f) e = λ z. omega (arith, reason-positive f.reason, z)

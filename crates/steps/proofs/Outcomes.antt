@@ -8,12 +8,12 @@ use native.Mathlib.Omega.{arith}
 use lib.Dec.{leb}
 use lib.ListN.{length}
 use borrow.Author.Tests.{eq-eqb, ne_eqb, le-leb, lt-leb, lt-ltb, le-ltb}
+use Rattle.std.specs.Prelude.{Result, Ok, Err, ⊤}
+use Rattle.block.specs.declared.Reason.TheVariants.{MemorySize, NotWellFormed, BeyondTable, TableFull, BufferLength}
 use Rattle.block.specs.Cut.{blocks_of}
 use Rattle.block.specs.Entry.{Container, Policy, Settings, Entry, container, policy}
 use Rattle.block.specs.declared.Refusal.{Refusal}
-use Rattle.block.specs.declared.Tested.{Tested}
-use Rattle.block.specs.declared.Tested.TheVariants.{Passed, Refused}
-use Rattle.block.specs.Refusal.{Check, check, first_refusal, refused, accepted}
+use Rattle.block.specs.Refusal.{reason_number, Check, check, first_refusal, refused, accepted}
 use Rattle.block.specs.Refusal.{read_unless}
 use Rattle.block.specs.Reader.{settings_checks, entry_checks, settings_said, entry_said, read_settings, read_entry}
 use Rattle.model.specs.declared.Tally.{Tally}
@@ -41,17 +41,17 @@ use Rattle.steps.specs.MemoryStep.{formed_check, meets_formed, memory_refusals, 
 
 -- ---- the two outcomes. All that follows cites these, so that a wrong outcome is met here and explained once
 
-pub refused-outcome : (m : List ℕ) (call : Call) (f : Refusal) → memory_outcome m call (Refused f) ≡ (m, refusal f.number)
+pub refused-outcome : (m : List ℕ) (call : Call) (f : Refusal) → memory_outcome m call (Err f) ≡ (m, refusal (reason_number f.reason))
 refused-outcome m call f = refl
 
-pub accepted-outcome : (m : List ℕ) (call : Call) → memory_outcome m call Passed
+pub accepted-outcome : (m : List ℕ) (call : Call) → memory_outcome m call (Ok tt)
     ≡ (cond (changes call) (image (accepted_step (registry_in m) call).0) m, (accepted_step (registry_in m) call).1)
 accepted-outcome m call = refl
 
 pub change-changes : (c : Change) → changes (change c) ≡ true
 change-changes c = refl
 
-changed-outcome : (m : List ℕ) (c : Change) → memory_outcome m (change c) Passed
+changed-outcome : (m : List ℕ) (c : Change) → memory_outcome m (change c) (Ok tt)
     ≡ (image (accepted_step (registry_in m) (change c)).0, (accepted_step (registry_in m) (change c)).1)
 changed-outcome m c =
     let r = accepted_step (registry_in m) (change c) in
@@ -64,14 +64,14 @@ module _ (m : List ℕ) (call : Call) where
   pub step-size : (length m ≡ memory_words → ⊥) → memory_step m call ≡ (m, refusal 1)
   unfolding memory_step memory_refusals
   step-size h =
-      ap (λ t. memory_outcome m call (first_refusal (check 1 (where0 (not t)) ∷ (meets_formed m call ++ refusals (registry_in m) call))))
+      ap (λ t. memory_outcome m call (first_refusal (check MemorySize (where0 (not t)) ∷ (meets_formed m call ++ refusals (registry_in m) call))))
       (ne_eqb (length m) memory_words h)
-      ∙ refused-outcome m call (record { number = 1; position = 0 })
+      ∙ refused-outcome m call (record { reason = MemorySize; position = 0 })
 
   past-size : length m ≡ memory_words → memory_step m call ≡ memory_outcome m call (first_refusal (meets_formed m call ++ refusals (registry_in m) call))
   unfolding memory_step memory_refusals
   past-size h =
-      ap (λ t. memory_outcome m call (first_refusal (check 1 (where0 (not t)) ∷ (meets_formed m call ++ refusals (registry_in m) call))))
+      ap (λ t. memory_outcome m call (first_refusal (check MemorySize (where0 (not t)) ∷ (meets_formed m call ++ refusals (registry_in m) call))))
       (eq-eqb (length m) memory_words h)
 
   -- 2, of a call that meets it
@@ -79,8 +79,8 @@ module _ (m : List ℕ) (call : Call) where
   step-formed h w e =
       past-size h
       ∙ ap (λ cs. memory_outcome m call (first_refusal (cs ++ refusals (registry_in m) call))) e
-      ∙ ap (λ t. memory_outcome m call (first_refusal (check 2 (where0 (not t)) ∷ refusals (registry_in m) call))) w
-      ∙ refused-outcome m call (record { number = 2; position = 0 })
+      ∙ ap (λ t. memory_outcome m call (first_refusal (check NotWellFormed (where0 (not t)) ∷ refusals (registry_in m) call))) w
+      ∙ refused-outcome m call (record { reason = NotWellFormed; position = 0 })
 
 module _ (m : List ℕ) where
   -- what a call meets after 1, and on a well-formed memory after 2
@@ -88,7 +88,7 @@ module _ (m : List ℕ) where
   past-formed w call cs = go call
     where
       passes : first_refusal (formed_check m ++ cs) ≡ first_refusal cs
-      passes = ap (λ t. first_refusal (check 2 (where0 (not t)) ∷ cs)) w
+      passes = ap (λ t. first_refusal (check NotWellFormed (where0 (not t)) ∷ cs)) w
 
       go : (call : Call) → first_refusal (meets_formed m call ++ cs) ≡ first_refusal cs
       go (open_with b) = refl
@@ -98,42 +98,42 @@ module _ (m : List ℕ) where
   pub step_past : well_formed m ≡ true → (call : Call) → memory_step m call ≡ memory_outcome m call (first_refusal (refusals (registry_in m) call))
   step_past w call = past-size m call (formed-memory m w).whole ∙ ap (memory_outcome m call) (past-formed w call (refusals (registry_in m) call))
 
-  pub step-refused : well_formed m ≡ true → (call : Call) (f : Refusal) → first_refusal (refusals (registry_in m) call) ≡ Refused f
-      → memory_step m call ≡ (m, refusal f.number)
+  pub step-refused : well_formed m ≡ true → (call : Call) (f : Refusal) → first_refusal (refusals (registry_in m) call) ≡ Err f
+      → memory_step m call ≡ (m, refusal (reason_number f.reason))
   step-refused w call f e = step_past w call ∙ ap (memory_outcome m call) e ∙ refused-outcome m call f
 
   -- a change, and a call that asks
-  step-changed : well_formed m ≡ true → (c : Change) → first_refusal (refusals (registry_in m) (change c)) ≡ Passed
+  step-changed : well_formed m ≡ true → (c : Change) → first_refusal (refusals (registry_in m) (change c)) ≡ Ok tt
       → memory_step m (change c) ≡ (image (accepted_step (registry_in m) (change c)).0, (accepted_step (registry_in m) (change c)).1)
   step-changed w c e = step_past w (change c) ∙ ap (memory_outcome m (change c)) e ∙ changed-outcome m c
 
-  step-asked : well_formed m ≡ true → (q : Query) → first_refusal (refusals (registry_in m) (ask q)) ≡ Passed
+  step-asked : well_formed m ≡ true → (q : Query) → first_refusal (refusals (registry_in m) (ask q)) ≡ Ok tt
       → memory_step m (ask q) ≡ (m, (accepted_step (registry_in m) (ask q)).1)
   step-asked w q e = step_past w (ask q) ∙ ap (memory_outcome m (ask q)) e ∙ accepted-outcome m (ask q)
 
 module _ (cs ds : List Check) where
-  append-refused : (f : Refusal) → first_refusal cs ≡ Refused f → first_refusal (cs ++ ds) ≡ Refused f
+  append-refused : (f : Refusal) → first_refusal cs ≡ Err f → first_refusal (cs ++ ds) ≡ Err f
   unfolding or_refusal
   append-refused f e = first-append cs ds ∙ ap (λ o. or_refusal o (first_refusal ds)) e
 
-  append-passed : first_refusal cs ≡ Passed → first_refusal (cs ++ ds) ≡ first_refusal ds
+  append-passed : first_refusal cs ≡ Ok tt → first_refusal (cs ++ ds) ≡ first_refusal ds
   unfolding or_refusal
   append-passed e = first-append cs ds ∙ ap (λ o. or_refusal o (first_refusal ds)) e
 
 -- ---- the slots that a call names
 
 module _ {A : Type 0} (size : ℕ) (t : Table A) where
-  pair-beyond-right : (a b : ℕ) → size ≤ b → first_refusal (pair_checks size t a b) ≡ Refused (record { number = 10; position = 0 })
+  pair-beyond-right : (a b : ℕ) → size ≤ b → first_refusal (pair_checks size t a b) ≡ Err (record { reason = BeyondTable; position = 0 })
   pair-beyond-right a b h = rw (le-leb size b h, or-true (leb size a))
 
   module _ (whole : length t ≡ size) where
     free-is : (i : ℕ) → i < size → free t i ≡ is_free (at t i)
     free-is i h = free-at t i (rw whole h)
 
-    slot-taken : (i : ℕ) (x : A) → i < size → at t i ≡ some x → first_refusal (slot_checks size t i) ≡ Passed
+    slot-taken : (i : ℕ) (x : A) → i < size → at t i ≡ some x → first_refusal (slot_checks size t i) ≡ Ok tt
     slot-taken i x h e = rw (lt-leb size i h, free-is i h, e)
 
-    pair-taken : (a b : ℕ) (x y : A) → a < size → b < size → at t a ≡ some x → at t b ≡ some y → first_refusal (pair_checks size t a b) ≡ Passed
+    pair-taken : (a b : ℕ) (x y : A) → a < size → b < size → at t a ≡ some x → at t b ≡ some y → first_refusal (pair_checks size t a b) ≡ Ok tt
     pair-taken a b x y h k e f = rw (lt-leb size a h, lt-leb size b k, free-is a h, free-is b k, e, f)
 
 -- the tables that a memory says have their numbers of slots
@@ -150,20 +150,20 @@ policy-slot-below m q e = omega (arith, lowest-below (model_in m).policies q e, 
 
 -- ---- open
 
-read-refused : {A : Type 0} (o : Tested) (x : A) (f : Refusal) → read_unless o x ≡ refused f → o ≡ Refused f
-read-refused Passed x f e = cc
-read-refused (Refused g) x f e = cc
+read-refused : {A : Type 0} (o : Result ⊤ Refusal) (x : A) (f : Refusal) → read_unless o x ≡ refused f → o ≡ Err f
+read-refused (Ok tt) x f e = cc
+read-refused (Err g) x f e = cc
 
-read-accepted : {A : Type 0} (o : Tested) (x y : A) → read_unless o x ≡ accepted y → (o ≡ Passed) × (x ≡ y)
-read-accepted Passed x y e = (refl, cc)
-read-accepted (Refused g) x y e = (cc, cc)
+read-accepted : {A : Type 0} (o : Result ⊤ Refusal) (x y : A) → read_unless o x ≡ accepted y → (o ≡ Ok tt) × (x ≡ y)
+read-accepted (Ok tt) x y e = (refl, cc)
+read-accepted (Err g) x y e = (cc, cc)
 
 module _ (m b : List ℕ) (whole : length m ≡ memory_words) where
   pub open-past : memory_step m (open_with b) ≡ memory_outcome m (open_with b) (first_refusal (settings_checks b))
   unfolding refusals
   open-past = past-size m (open_with b) whole
 
-  pub open-refused : (f : Refusal) → read_settings b ≡ refused f → memory_step m (open_with b) ≡ (m, refusal f.number)
+  pub open-refused : (f : Refusal) → read_settings b ≡ refused f → memory_step m (open_with b) ≡ (m, refusal (reason_number f.reason))
   unfolding read_settings
   open-refused f e =
       open-past ∙ ap (memory_outcome m (open_with b)) (read-refused (first_refusal (settings_checks b)) (settings_said b) f e) ∙ refused-outcome m (open_with b) f
@@ -184,9 +184,9 @@ module _ (m : List ℕ) (formed : well_formed m ≡ true) where
     asked = entry_checks (model_in m).settings b
 
     abbrev room : Entry → List Check
-    room x = check 12 (where0 (no_room (model_in m) x)) ∷ []
+    room x = check TableFull (where0 (no_room (model_in m) x)) ∷ []
 
-    pub admit-refused : (f : Refusal) → read_entry (model_in m).settings b ≡ refused f → memory_step m (change (admit b)) ≡ (m, refusal f.number)
+    pub admit-refused : (f : Refusal) → read_entry (model_in m).settings b ≡ refused f → memory_step m (change (admit b)) ≡ (m, refusal (reason_number f.reason))
     unfolding read_entry refusals admit_checks registry_in
     admit-refused f e =
         step-refused m formed (change (admit b)) f
@@ -204,9 +204,9 @@ module _ (m : List ℕ) (formed : well_formed m ≡ true) where
         ∙ pick (no_room (model_in m) (entry_said b))
         ∙ ap (λ v. cond (no_room (model_in m) v) (m, refusal 12) (image (admit_entry (registry_in m) v).0, (admit_entry (registry_in m) v).1)) h.1
       where
-        pick : (t : Bool) → memory_outcome m (change (admit b)) (first_refusal (check 12 (where0 t) ∷ []))
+        pick : (t : Bool) → memory_outcome m (change (admit b)) (first_refusal (check TableFull (where0 t) ∷ []))
             ≡ cond t (m, refusal 12) (image (admit_entry (registry_in m) (entry_said b)).0, (admit_entry (registry_in m) (entry_said b)).1)
-        pick true = refused-outcome m (change (admit b)) (record { number = 12; position = 0 })
+        pick true = refused-outcome m (change (admit b)) (record { reason = TableFull; position = 0 })
         pick false = changed-outcome m (admit b)
 
     pub admit-container-full : (x : Container) → read_entry (model_in m).settings b ≡ accepted (container x)
@@ -233,11 +233,11 @@ module _ (m : List ℕ) (formed : well_formed m ≡ true) where
 
   -- a batch
   module _ (bs : List ℕ) (n : ℕ) (t : Tally) where
-    pub batch-refused : (f : Refusal) → first_refusal (batch_checks bs n) ≡ Refused f → memory_step m (change (admit_batch bs n t)) ≡ (m, refusal f.number)
+    pub batch-refused : (f : Refusal) → first_refusal (batch_checks bs n) ≡ Err f → memory_step m (change (admit_batch bs n t)) ≡ (m, refusal (reason_number f.reason))
     unfolding refusals
     batch-refused f e = step-refused m formed (change (admit_batch bs n t)) f e
 
-    pub batch-admits : first_refusal (batch_checks bs n) ≡ Passed
+    pub batch-admits : first_refusal (batch_checks bs n) ≡ Ok tt
         → let d = run admit_block (registry_in m) (blocks_of bs) in memory_step m (change (admit_batch bs n t)) ≡ (image d.0, batch_answer t d.1)
     unfolding refusals accepted_step
     batch-admits e = step-changed m formed (admit_batch bs n t) e
@@ -307,7 +307,7 @@ module _ (m : List ℕ) (formed : well_formed m ≡ true) where
   module _ (n : ℕ) where
     pub write-short : n < length (file_of (model_in m)) → memory_step m (ask (write n)) ≡ (m, refusal 13)
     unfolding refusals registry_in
-    write-short h = step-refused m formed (ask (write n)) (record { number = 13; position = 0 }) (rw (lt-ltb n (length (file_of (model_in m))) h))
+    write-short h = step-refused m formed (ask (write n)) (record { reason = BufferLength; position = 0 }) (rw (lt-ltb n (length (file_of (model_in m))) h))
 
     pub write-puts : length (file_of (model_in m)) ≤ n → memory_step m (ask (write n)) ≡ (m, file_put (file_of (model_in m)))
     unfolding refusals registry_in accepted_step answer_to

@@ -5,9 +5,9 @@ use mathlib.Core.List.{List, [], ◌∷◌}
 use mathlib.Core.Option.{Option, none, some}
 use Prim.Native.Nat.{ℕ, zero, suc}
 use lib.ListN.{length}
+use Rattle.std.specs.Prelude.{Result, Ok, Err, ⊤}
+use Rattle.block.specs.declared.Refusal.{Refusal}
 use Rattle.block.specs.Entry.{Settings}
-use Rattle.block.specs.declared.Tested.{Tested}
-use Rattle.block.specs.declared.Tested.TheVariants.{Passed, Refused}
 use Rattle.block.specs.Refusal.{first_refusal, accepted}
 use Rattle.block.specs.Refusal.{read_unless}
 use Rattle.block.specs.Reader.{settings_checks, settings_said, read_settings}
@@ -46,14 +46,14 @@ changed r (open_with b) = refl
 changed r (change c) = let s = accepted_step r (change c) in ap (λ t. (cond t (image s.0) (image r), s.1)) (change-changes c)
 changed r (ask q) = refl
 
-outcome-image : (r : Registry) (call : Call) (o : Tested) → registry_in (image r) ≡ r
+outcome-image : (r : Registry) (call : Call) (o : Result ⊤ Refusal) → registry_in (image r) ≡ r
     → memory_outcome (image r) call o ≡ imaged (unless_refused r call o)
 unfolding unless_refused
-outcome-image r call Passed e =
+outcome-image r call (Ok tt) e =
     accepted-outcome (image r) call
     ∙ ap (λ (v : Registry). (cond (changes call) (image (accepted_step v call).0) (image r), (accepted_step v call).1)) e
     ∙ changed r call
-outcome-image r call (Refused f) e = refused-outcome (image r) call f
+outcome-image r call (Err f) e = refused-outcome (image r) call f
 
 -- The step on the memory of an acceptable registry is the registry's step.
 pub step-image : (r : Registry) → Acceptable r → (call : Call) → memory_step (image r) call ≡ imaged (registry_step r call)
@@ -123,9 +123,9 @@ open-read : (m b : List ℕ) → length m ≡ memory_words → (memory_step m (o
 unfolding read_settings
 open-read m b whole e = pick (first_refusal (settings_checks b)) (sym (ap (λ r. r.1) (open-past m b whole)) ∙ e)
   where
-    pick : (o : Tested) → (memory_outcome m (open_with b) o).1 ≡ done → read_unless o (settings_said b) ≡ accepted (settings_said b)
-    pick Passed h = refl
-    pick (Refused f) h = cc
+    pick : (o : Result ⊤ Refusal) → (memory_outcome m (open_with b) o).1 ≡ done → read_unless o (settings_said b) ≡ accepted (settings_said b)
+    pick (Ok tt) h = refl
+    pick (Err f) h = cc
 
 -- Demand 3, whole.
 pub refinement : Refinement

@@ -4,10 +4,10 @@ use mathlib.Core.Bool.{true}
 use mathlib.Core.List.{List, [], ◌∷◌}
 use mathlib.Core.Option.{Option, none, some}
 use Prim.Native.Nat.{ℕ}
+use Rattle.std.specs.Prelude.{Result, Ok, Err, ⊤}
+use Rattle.block.specs.declared.Refusal.{Refusal}
 use Rattle.block.specs.Cut.{blocks_of}
 use Rattle.block.specs.Entry.{Container, Policy, Entry, container, policy}
-use Rattle.block.specs.declared.Tested.{Tested}
-use Rattle.block.specs.declared.Tested.TheVariants.{Passed, Refused}
 use Rattle.block.specs.Refusal.{first_refusal, read_unless}
 use Rattle.block.specs.Reader.{entry_checks, settings_said, entry_said, read_settings, AcceptedAs}
 use Rattle.block.proofs.Accepted.{entry_read}
@@ -52,12 +52,12 @@ module _ (r : Registry) (ok : Acceptable r) where
   admit-stays b (container x) e = admit-container-stays b x (lowest_free r.model.containers) e
   admit-stays b (policy p) e = admit-policy-stays b p (lowest_free r.model.policies) e
 
-  admit-unless-stays : (b : List ℕ) (o : Tested) → first_refusal (admit_checks r.model b) ≡ o → Acceptable (admit_unless r b o).0
+  admit-unless-stays : (b : List ℕ) (o : Result ⊤ Refusal) → first_refusal (admit_checks r.model b) ≡ o → Acceptable (admit_unless r b o).0
   unfolding admit_unless admit_checks
-  admit-unless-stays b Passed e =
+  admit-unless-stays b (Ok tt) e =
       let s = r.model.settings in
-      admit-stays b (entry_said b) (entry_read s b Passed (both-passed (entry_checks s b) _ e).0)
-  admit-unless-stays b (Refused f) e = ok
+      admit-stays b (entry_said b) (entry_read s b (Ok tt) (both-passed (entry_checks s b) _ e).0)
+  admit-unless-stays b (Err f) e = ok
 
   pub block-stays : (b : List ℕ) → Acceptable (admit_block r b).0
   unfolding admit_block
@@ -73,13 +73,13 @@ module _ (r : Registry) (ok : Acceptable r) where
   take-policy-stays q none = ok
   take-policy-stays q (some p) = policy-stays r ok q p none (valid-kept.policy_gone r.model ok.entries q)
 
-  accepted-stays : (call : Call) → first_refusal (refusals r call) ≡ Passed → Acceptable (accepted_step r call).0
+  accepted-stays : (call : Call) → first_refusal (refusals r call) ≡ Ok tt → Acceptable (accepted_step r call).0
   unfolding accepted_step refusals admit_unless rebuilt read_settings
   accepted-stays (open_with b) e =
       let s = settings_said b in
       subst Acceptable (sym (opened-computed s))
       (acceptable-computed (empty s) (valid-kept.opened b s (ap (λ t. read_unless t s) e)))
-  accepted-stays (change (admit b)) e = admit-unless-stays r ok b Passed e
+  accepted-stays (change (admit b)) e = admit-unless-stays r ok b (Ok tt) e
   accepted-stays (change (admit_batch bs n t)) e = admissions-stay r ok (blocks_of bs)
   accepted-stays (change (remove_container c)) e = container-stays r ok c none (valid-kept.container_gone r.model ok.entries c)
   accepted-stays (change (remove_policy q)) e = take-policy-stays q (at r.model.policies q)
@@ -90,9 +90,9 @@ module _ (r : Registry) (ok : Acceptable r) where
   unfolding registry_step unless_refused
   step_stays call = pick (first_refusal (refusals r call)) refl
     where
-      pick : (o : Tested) → first_refusal (refusals r call) ≡ o → Acceptable (unless_refused r call o).0
-      pick Passed e = accepted-stays call e
-      pick (Refused f) e = ok
+      pick : (o : Result ⊤ Refusal) → first_refusal (refusals r call) ≡ o → Acceptable (unless_refused r call o).0
+      pick (Ok tt) e = accepted-stays call e
+      pick (Err f) e = ok
 
 -- A well-formed memory is the image of the registry that it says.
 pub stays-formed : StaysFormed

@@ -2,30 +2,24 @@
 #![tactic(auto)]
 
 ghost use Rattle.std.specs.Prelude.{◌≡◌};
-ghost use Rattle.model.specs.Batch.{one_more, tallied_one};
+ghost use Rattle.model.specs.Batch.{tallied_one};
 
 use model::Tally;
 
-// One more; the largest number stays.
-fn one_more(n: u64) -> u64
-    ensures { result ≡ one_more n }
-{
-    if n < u64::MAX { n + 1 } else { n }
-}
-
-// A tally with one block more, taken or refused.
+// A tally with one block more, taken or refused. The largest number stays.
+#[tactic(auto, unfolding(model::specs::Batch::tallied_one))]
 pub fn counted(tally: Tally, taken: bool) -> Tally
     ensures { result ≡ tallied_one tally taken }
 {
     if taken {
         Tally {
-            taken: one_more(tally.taken),
+            taken: tally.taken.saturating_add(1),
             refused: tally.refused,
         }
     } else {
         Tally {
             taken: tally.taken,
-            refused: one_more(tally.refused),
+            refused: tally.refused.saturating_add(1),
         }
     }
 }

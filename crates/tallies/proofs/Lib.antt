@@ -1,2 +1,0 @@
--- The two ways of a tally.
-pub mod Ways
