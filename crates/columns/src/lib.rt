@@ -16,6 +16,7 @@ fn with_bit(word: u64, i: usize, value: bool) -> u64
 }
 
 // Bit b of row r made `value`.
+#[tactic(auto, unfolding(store::specs::Memory::bit_set))]
 fn set_bit(memory: &mut [u64], r: usize, b: usize, value: bool)
     requires { Whole memory.old × (r < row_count) × (b < 256) }
     ensures { memory.new ≡ bit_set memory.old r b value }
@@ -30,11 +31,8 @@ pub fn set_column(memory: &mut [u64], band: Band, b: usize, values: [u64; 4])
     requires { Whole memory.old × InRows band × (b < 256) }
     ensures { memory.new ≡ column_set memory.old band b values }
 {
-    let mut i = 0;
-    while i < band.count {
-        let r = band.first + band.step * i;
+    for i in 0..band.count {
         let value = bitrow::bit_of(values[i / 64], i);
-        set_bit(memory, r, b, value);
-        i += 1;
+        set_bit(memory, band.row(i), b, value);
     }
 }

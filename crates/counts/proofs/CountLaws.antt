@@ -13,10 +13,11 @@ use Rattle.bitrow.specs.Set.{nothing, one, size}
 use Rattle.bitrow.proofs.Sizes.{size-zero, size_low, size-le, size-cong, size-nothing}
 use Rattle.model.specs.Table.{Table, stands, count, up_from, below, standing_from, standing}
 use Rattle.model.specs.Model.{container_slots, Bits}
-use Rattle.model.specs.Findings.{containers_of, policies_of, pairs_in, pairs}
+use Rattle.model.specs.Findings.{pairs_in, pairs}
 use Rattle.store.specs.Layout.{row_at}
-use Rattle.formed.specs.Registry.{model_in, bits_in, registry_in}
-use Rattle.formed.proofs.Acceptable.{containers-size, policies-size}
+use Rattle.store.proofs.Image.{length-tab}
+use Rattle.entries.specs.Tables.{Tabled, slot_in}
+use Rattle.formed.specs.Registry.{bits_in}
 use Rattle.formed.proofs.StoredLaws.{matrix-row}
 
 -- ---- how many pairs
@@ -90,11 +91,7 @@ standing-size (some x ∷ t) i (suc n) h = ap suc (standing-size t (suc i) n (om
 standing-counted : {A : Type 0} (t : Table A) (row : List ℕ) {k : ℕ} → length t ≤ 256 → bit_at row ≡ stands t → k ≡ size (bit_at row) 256 → k ≡ length (standing t)
 standing-counted t row h e f = f ∙ ap (λ (s : ℕ → Bool). size s 256) e ∙ sym (standing-size t 0 256 h)
 
-module _ (m row : List ℕ) {k : ℕ} where
-  pub containers-counted : bit_at row ≡ stands (model_in m).containers → k ≡ size (bit_at row) 256 → k ≡ length (containers_of (model_in m))
-  unfolding registry_in
-  containers-counted = standing-counted (model_in m).containers row (omega (arith, containers-size m))
-
-  pub policies-counted : bit_at row ≡ stands (model_in m).policies → k ≡ size (bit_at row) 256 → k ≡ length (policies_of (model_in m))
-  unfolding registry_in
-  policies-counted = standing-counted (model_in m).policies row (omega (arith, policies-size m))
+pub table-counted : {A : Type 0} {start words n : ℕ} {entry : ℕ → A} {m : List ℕ} {t : Table A} → Tabled start words n entry m t
+    → (row : List ℕ) {k : ℕ} → bit_at row ≡ stands t → k ≡ size (bit_at row) 256 → k ≡ length (standing t)
+table-counted {start} {words} {n} {entry} {m} {t} g row =
+    standing-counted t row (omega (arith, ap length g.reads, length-tab n (slot_in start words entry m), g.in_row))

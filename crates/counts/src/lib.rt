@@ -2,36 +2,29 @@
 #![tactic(auto)]
 
 ghost use Rattle.std.specs.Prelude.{◌≡◌, length};
-ghost use Rattle.model.specs.Findings.{containers_of, policies_of, pairs as set_pairs};
+ghost use Rattle.model.specs.Table.{standing};
+ghost use Rattle.model.specs.Findings.{pairs as set_pairs};
 ghost use Rattle.store.specs.Layout.{Whole};
-ghost use Rattle.formed.specs.Registry.{model_in, bits_in};
+ghost use Rattle.formed.specs.Registry.{bits_in};
+
+use entries::Slot;
 
 // "PAIRS is the number of set bits in the matrix", word by word.
 pub fn pairs(memory: &[u64]) -> u64
     requires { Whole memory.now }
     ensures { result ≡ set_pairs (bits_in memory.now) }
 {
-    let mut n = 0u64;
-    let mut a = 0;
-    while a < store::CONTAINER_SLOTS {
-        n += row_reads::count(access::row_at(memory, a)) as u64;
-        a += 1;
+    let mut n = 0;
+    for a in 0..store::CONTAINER_SLOTS {
+        n += u64::from(row_reads::count(access::row_at(memory, a)));
     }
     n
 }
 
-// The number of standing containers.
-pub fn count_containers(memory: &[u64]) -> u64
+// The number of standing slots of a table.
+pub fn count_standing<S: Slot>(memory: &[u64]) -> u64
     requires { Whole memory.now }
-    ensures { result ≡ length (containers_of (model_in memory.now)) }
+    ensures { result ≡ length (standing (S.table memory.now)) }
 {
-    row_reads::count(stored::containers_standing(memory)) as u64
-}
-
-// The number of standing policies.
-pub fn count_policies(memory: &[u64]) -> u64
-    requires { Whole memory.now }
-    ensures { result ≡ length (policies_of (model_in memory.now)) }
-{
-    row_reads::count(stored::policies_standing(memory)) as u64
+    u64::from(row_reads::count(stored::standing::<S>(memory)))
 }

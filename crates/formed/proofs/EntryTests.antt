@@ -9,7 +9,8 @@ use native.Mathlib.Omega.{arith}
 use lib.Dec.{eqb, ltb, leb}
 use lib.ListN.{length, get_or, length-map, get_or-eq_default}
 use borrow.Author.Tests.{ltb-true, leb-true, lt-ltb, le-leb, eqb-true, eqb-false, eq-eqb}
-use Rattle.block.specs.Entry.{Label, Settings, ingress, egress}
+use Rattle.block.specs.declared.Direction.TheVariants.{Ingress as ingress, Egress as egress}
+use Rattle.block.specs.Entry.{Label, Settings}
 use Rattle.block.specs.Reader.{within, direction_of}
 use Rattle.block.specs.Written.{direction_number, in_range, all_in_range, rising_after, rising, valid_labels, valid_entry}
 use Rattle.model.proofs.Lists.{both}

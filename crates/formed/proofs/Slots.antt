@@ -8,7 +8,9 @@ use native.Mathlib.Nat.{add-zero}
 use native.Mathlib.Omega.{arith}
 use lib.ListN.{length, get_or}
 use borrow.Author.Tests.{eq-eqb, ne_eqb}
-use Rattle.block.specs.Entry.{Container, Direction, ingress, egress, Policy, Settings, container, policy}
+use Rattle.block.specs.declared.Direction.{Direction}
+use Rattle.block.specs.declared.Direction.TheVariants.{Ingress as ingress, Egress as egress}
+use Rattle.block.specs.Entry.{Container, Policy, Settings, container, policy}
 use Rattle.block.specs.Reader.{direction_of}
 use Rattle.block.specs.Written.{direction_number, valid_labels, valid_entry}
 use Rattle.block.proofs.Written.{direction-back}

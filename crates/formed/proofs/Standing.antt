@@ -1,11 +1,11 @@
 -- Standing slots as bits: a word that a loop gathers, and four such words as the row of a table.
 use mathlib.Core.Path.{◌≡◌, refl, sym, ap, ◌∙◌, fun_ext, ap₂}
-use mathlib.Core.Bool.{Bool, false, not, ◌&&◌, and-true, and-false, and_comm, true}
+use mathlib.Core.Bool.{Bool, false, not, ◌&&◌, and-true, and-false, true}
 use mathlib.Core.List.{List, [], ◌∷◌}
 use Prim.Native.Nat.{ℕ, zero, suc, ◌+◌, ◌-◌, ◌*◌, ◌%◌, ◌<◌, ◌≤◌}
-use native.Mathlib.Nat.{mul-le-mul_left, mod-eq_of_lt}
+use native.Mathlib.Nat.{mod-eq_of_lt}
 use native.Mathlib.Omega.{arith}
-use lib.Dec.{eqb, ltb}
+use lib.Dec.{eqb}
 use lib.ListN.{get_or}
 use mir.Val.{Fits}
 use mir.Syntax.{w64}
@@ -15,12 +15,8 @@ use Rattle.bitrow.specs.Set.{nothing, insert, meet, under, Bounded}
 use Rattle.bitrow.proofs.Sets.{point, meet-at, meet-take, meet-skip, meet-nothing, under-zero, under-in, under-out, bounded-under, bounded-raise, bounded-meet-right}
 use Rattle.bitrow.proofs.Words.{bit-zero, bit_not}
 use Rattle.bitrow.proofs.Rows.{words_are}
-use Rattle.model.specs.Table.{stands}
-use Rattle.model.specs.Model.{container_slots, policy_slots}
-use Rattle.store.specs.Layout.{containers_start, container_words, policies_start, policy_words, container_start, policy_start, word_at}
-use Rattle.formed.specs.Registry.{model_in}
+use Rattle.store.specs.Layout.{word_at}
 use Rattle.formed.specs.Tests.{firsts}
-use Rattle.formed.proofs.Reading.{container-stands, policy-stands}
 
 module _ (s : ℕ → Bool) (n j : ℕ) where
   pub meet-in : j < n → meet s (under n) j ≡ s j
@@ -56,10 +52,6 @@ module _ (m : List ℕ) (from step first k w : ℕ) (e : bit w ≡ meet (firsts 
   unfolding firsts
   firsts-take v h f z = word-take (firsts m from step first) k w e v h f (eq-eqb _ _ z)
 
--- slot k of n that fit
-pub first-within : (from step k n size : ℕ) → k < n → 0 < step → from + n * step ≤ size → from + step * k < size
-first-within from step k n size h p q = omega (arith, mul-le-mul_left {m = k + 1} {n = n} step (omega arith))
-
 -- ---- four words as a row
 
 -- four words, by what each is
@@ -76,7 +68,7 @@ words_row s a b c d q f g h l = words_are (a ∷ b ∷ c ∷ d ∷ []) s refl q 
     each (suc (suc (suc zero))) p = l
     each (suc (suc (suc (suc k)))) p = absurd (omega arith)
 
--- 256 slots in four words, and 128 in two
+-- 128 slots in two words
 module _ (s : ℕ → Bool) where
   within : (n j w : ℕ) → j + 64 ≤ n → ((i : ℕ) → i < 64 → bit w i ≡ s (j + i)) → (i : ℕ) → i < 64 → bit w i ≡ meet s (under n) (j + i)
   within n j w h e i l = e i l ∙ sym (meet-in s n (j + i) (omega arith))
@@ -86,14 +78,6 @@ module _ (s : ℕ → Bool) where
 
   bounded-by : (n : ℕ) → n ≤ 256 → Bounded 256 (meet s (under n))
   bounded-by n h = bounded-meet-right (bounded-raise h (bounded-under n)) s
-
-  pub four-words : (a b c d : ℕ)
-      → ((i : ℕ) → i < 64 → bit a i ≡ s (0 + i)) → ((i : ℕ) → i < 64 → bit b i ≡ s (64 + i))
-      → ((i : ℕ) → i < 64 → bit c i ≡ s (128 + i)) → ((i : ℕ) → i < 64 → bit d i ≡ s (192 + i))
-      → bit_at (a ∷ b ∷ c ∷ d ∷ []) ≡ meet s (under 256)
-  four-words a b c d e f g h =
-      words_row (meet s (under 256)) a b c d (bounded-by 256 (omega arith))
-      (within 256 0 a (omega arith) e) (within 256 64 b (omega arith) f) (within 256 128 c (omega arith) g) (within 256 192 d (omega arith) h)
 
   pub two-words : (a b : ℕ) → ((i : ℕ) → i < 64 → bit a i ≡ s (0 + i)) → ((i : ℕ) → i < 64 → bit b i ≡ s (64 + i))
       → bit_at (a ∷ b ∷ 0 ∷ 0 ∷ []) ≡ meet s (under 128)
@@ -120,36 +104,7 @@ taken w = not (eqb w 0)
 
 module _ (m : List ℕ) where
   -- a word of free slots, turned round
-  standing-word : (from step w : ℕ) → Fits w64 w → bit w ≡ meet (firsts m from step 0) (under 64)
+  pub standing-word : (from step w : ℕ) → Fits w64 w → bit w ≡ meet (firsts m from step 0) (under 64)
       → (i : ℕ) → i < 64 → bit (18446744073709551615 - w) i ≡ taken (word_at m (from + step * i))
   unfolding firsts
   standing-word from step w h e i l = bit_not 64 w i h.fits l ∙ ap not (point e i ∙ meet-in (firsts m from step 0) 64 i l)
-
-  containers-stand : meet (passing m containers_start container_words taken) (under container_slots) ≡ stands (model_in m).containers
-  unfolding meet under passing
-  containers-stand = fun_ext (λ c. and_comm (not (eqb (word_at m (container_start c)) 0)) (ltb c container_slots) ∙ sym (container-stands m c))
-
-  policies-stand : meet (passing m policies_start policy_words taken) (under policy_slots) ≡ stands (model_in m).policies
-  unfolding meet under passing
-  policies-stand = fun_ext (λ q. and_comm (not (eqb (word_at m (policy_start q)) 0)) (ltb q policy_slots) ∙ sym (policy-stands m q))
-
-  pub containers-row : (a b c d : ℕ) → Fits w64 a → Fits w64 b → Fits w64 c → Fits w64 d
-      → bit a ≡ meet (firsts m containers_start container_words 0) (under 64) → bit b ≡ meet (firsts m (container_start 64) container_words 0) (under 64)
-      → bit c ≡ meet (firsts m (container_start 128) container_words 0) (under 64) → bit d ≡ meet (firsts m (container_start 192) container_words 0) (under 64)
-      → bit_at ((18446744073709551615 - a) ∷ (18446744073709551615 - b) ∷ (18446744073709551615 - c) ∷ (18446744073709551615 - d) ∷ []) ≡ stands (model_in m).containers
-  containers-row a b c d fa fb fc fd e f g h =
-      let at = containers_start in
-      let n = container_words in
-      four-words (passing m at n taken) _ _ _ _
-      (slots-word m at n taken 0 _ (standing-word at n a fa e)) (slots-word m at n taken 64 _ (standing-word (container_start 64) n b fb f))
-      (slots-word m at n taken 128 _ (standing-word (container_start 128) n c fc g)) (slots-word m at n taken 192 _ (standing-word (container_start 192) n d fd h))
-      ∙ containers-stand
-
-  pub policies-row : (a b : ℕ) → Fits w64 a → Fits w64 b
-      → bit a ≡ meet (firsts m policies_start policy_words 0) (under 64) → bit b ≡ meet (firsts m (policy_start 64) policy_words 0) (under 64)
-      → bit_at ((18446744073709551615 - a) ∷ (18446744073709551615 - b) ∷ 0 ∷ 0 ∷ []) ≡ stands (model_in m).policies
-  policies-row a b fa fb e f =
-      let at = policies_start in
-      let n = policy_words in
-      two-words (passing m at n taken) _ _ (slots-word m at n taken 0 _ (standing-word at n a fa e)) (slots-word m at n taken 64 _ (standing-word (policy_start 64) n b fb f))
-      ∙ policies-stand

@@ -10,12 +10,14 @@ use Rattle.bitrow.specs.Bit.{bit_at}
 use Rattle.bitrow.proofs.Sets.{point}
 use Rattle.model.specs.Table.{at}
 use Rattle.model.specs.Model.{container_slots, policy_slots, Model, Bits}
-use Rattle.store.specs.Layout.{containers_start, container_words, policies_start, policy_words, container_start, policy_start, row_count, matrix_band, selected_band, allowed_band, band_index, in_band, selected_row, allowed_row, word_at, row_at, row_bit}
+use Rattle.store.specs.Layout.{containers_start, container_words, policies_start, policy_words, container_start, policy_start, row_count, matrix_band, selected_band, allowed_band, band_index, in_band, band_row, band_of, selected_row, allowed_row, word_at, row_at, row_bit}
+use Rattle.store.specs.declared.Part.{Part}
+use Rattle.store.specs.declared.Part.TheVariants.{Select, Allow}
 use Rattle.store.proofs.Cases.{by-ltb}
 use Rattle.store.proofs.Carried.{row-bits}
 use Rattle.store.proofs.Columns.{band-index, band-in, band-out, by-band}
 use Rattle.formed.specs.Words.{settings_word, container_word, policy_word}
-use Rattle.formed.specs.Registry.{bit_within, bits_in, entry_word, stored_bit}
+use Rattle.formed.specs.Registry.{bit_within, bits_in, set_in, entry_word, stored_bit}
 
 abbrev pub Fit : List ℕ → Type 0
 Fit m = (k : ℕ) → word_at m k < 2 ^ 64
@@ -116,3 +118,7 @@ module _ (m : List ℕ) where
   pub allowed-row : (q : ℕ) → q < policy_slots → bit_at (row_at m (allowed_row q)) ≡ (bits_in m).allowed q
   unfolding bits_in
   allowed-row q h = row_within policy_slots q (allowed_row q) h
+
+  pub set-row : (p : Part) (q : ℕ) → q < policy_slots → bit_at (row_at m (band_row (band_of p) q)) ≡ set_in (bits_in m) p q
+  set-row Select = selected-row
+  set-row Allow = allowed-row

@@ -8,6 +8,8 @@ use Rattle.model.specs.Model.{container_slots, policy_slots, Model, Bits}
 use Rattle.model.specs.Registry.{Registry, BitsStand}
 use Rattle.store.specs.Layout.{memory_words, rows_start, Whole, containers_start, container_words, policies_start, policy_words, matrix_band, selected_band, allowed_band, band_index, in_band, selected_row, allowed_row, word_at, row_bit}
 use Rattle.store.specs.Contents.{Contents, tab, image_of}
+use Rattle.store.specs.declared.Part.{Part}
+use Rattle.store.specs.declared.Part.TheVariants.{Select, Allow}
 use Rattle.formed.specs.Words.{settings_word, container_word, policy_word, settings_in, container_in, policy_in}
 
 -- ---- what the memory says
@@ -29,6 +31,11 @@ bits_in m = record {
   selected = λ q c. bit_within m policy_slots q (selected_row q) c;
   allowed = λ q c. bit_within m policy_slots q (allowed_row q) c;
 }
+
+-- the set that a part of policy q has in the bits: those stored, or `computed_bits` of a model
+abbrev pub set_in : Bits → Part → ℕ → ℕ → Bool
+set_in s Select = s.selected
+set_in s Allow = s.allowed
 
 unfoldable pub registry_in : List ℕ → Registry
 registry_in m = record { model = model_in m; bits = bits_in m }

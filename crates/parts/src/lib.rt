@@ -7,6 +7,7 @@ ghost use Rattle.store.specs.Memory.{slot_set};
 ghost use Rattle.formed.specs.Words.{part_word};
 
 // Label k of the n from byte `from` of a block, as a word; 0 past them.
+// Kept: the block with `from`, since a slice of the labels alone would have to be carried back to the block that the contracts read.
 fn label_word(block: &[u8], from: usize, n: usize, k: usize) -> u64
     requires { from + 4 * n ≤ length block.now }
     ensures { result ≡ part_word (labels_at block.now from n) (1 + k) }
@@ -21,14 +22,14 @@ fn label_word(block: &[u8], from: usize, n: usize, k: usize) -> u64
 }
 
 // The n labels from byte `from` of a block, put as a part of `limit` labels at word `at`: header, labels, zeros.
+// Kept: the memory and the block with positions, which are what the clauses of placing speak of; and the `as`, since no `From` makes
+// a `u64` of a `usize`.
 pub fn put_part(memory: &mut [u64], at: usize, limit: usize, block: &[u8], from: usize, n: usize)
     requires { (at + (1 + limit) ≤ length memory.old) × (from + 4 * n ≤ length block.now) }
     ensures { memory.new ≡ slot_set memory.old at (1 + limit) (part_word (labels_at block.now from n)) }
 {
     memory[at] = 1 + n as u64;
-    let mut k = 0;
-    while k < limit {
+    for k in 0..limit {
         memory[at + 1 + k] = label_word(block, from, n, k);
-        k += 1;
     }
 }

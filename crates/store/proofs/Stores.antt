@@ -1,18 +1,18 @@
 -- Laws of lists that were stored to: a run of stores, a part that was filled, the rows of a band.
 use mathlib.Core.Path.{◌≡◌, refl, sym, ap, ap₂, ◌∙◌}
 use mathlib.Core.Bool.{Bool}
-use mathlib.Core.List.{List, [], ◌∷◌, ◌++◌}
+use mathlib.Core.List.{List, [], ◌∷◌, ◌++◌, append_assoc}
 use Prim.Native.Nat.{ℕ, zero, suc, ◌+◌, ◌-◌, ◌<◌, ◌≤◌}
-use native.Mathlib.Nat.{add-suc, add-zero, suc-add, zero-add, not-suc-le-zero, le_refl, mul-le-mul_left}
+use native.Mathlib.Nat.{add-suc, add-zero, suc-add, not-suc-le-zero, mul-le-mul_left}
 use native.Mathlib.Numerals.{add-one}
 use native.Mathlib.Omega.{arith}
-use lib.ListN.{length, get_or, set, take, replicate, length-set, replicate-append-replicate}
-use lib.Seq.{sets, length-sets, get_or-set_same, get_or-set_other, set-append_left, length-take-le, take_all, take-suc-set}
-use borrow.Rule.Slice.PartMut.{put_mid, mid_of, post_of, put_same, mid_len}
-use Rattle.store.specs.Layout.{band_row, word_at}
+use lib.ListN.{length, get_or, set, take, drop, replicate, length-set, replicate-append-replicate}
+use lib.Seq.{sets, sets-eq, length-sets, get_or-set_same, get_or-set_other, take_all, take-suc-set}
+use borrow.Rule.Slice.PartMut.{put_mid, Post-is}
+use Rattle.store.specs.Layout.{band_row, word_at, row_start}
 use Rattle.store.specs.declared.Band.{Band}
 use Rattle.store.specs.Contents.{tab}
-use Rattle.store.specs.Memory.{bit_word, slot_set, bit_set, runs, column_set}
+use Rattle.store.specs.Memory.{bit_word, slot_set, four_words, row_set, bit_set, runs, column_set}
 use Rattle.store.proofs.Image.{length-tab}
 use Rattle.bitrow.specs.Bit.{bit_at}
 
@@ -88,33 +88,40 @@ slot-join m start a (suc b) f =
 
 -- ---- a part that was filled
 
-set_past : {A : Type 0} (p q : List A) (i : ℕ) (v : A) → set (p ++ q) (length p + i) v ≡ p ++ set q i v
-set_past [] q i v = simp zero-add
-set_past (x ∷ p) q i v = rw suc-add (ap (λ r. x ∷ r) (set_past p q i v))
+-- `xs[a..b]` written over
+pub part-written : {A : Type 0} (a b : ℕ) (xs vs : List A) → a + length vs ≡ b → b ≤ length xs → put_mid a (b - a) xs vs ≡ sets xs a vs
+part-written {A} a b xs vs e h =
+    ap (λ (l : List A). take a xs ++ (vs ++ l)) (Post-is a b xs (omega arith) ∙ ap (λ n. drop n xs) (sym e))
+    ∙ sym (append_assoc (take a xs) vs (drop (a + length vs) xs))
+    ∙ sym (sets-eq vs xs a (omega arith))
 
-part-set : {A : Type 0} (a k : ℕ) (xs ys : List A) (j : ℕ) (v : A) → a ≤ length xs → j < length ys
-    → put_mid a k xs (set ys j v) ≡ set (put_mid a k xs ys) (a + j) v
-part-set {A} a k xs ys j v h g =
-    ap (λ (l : List A). take a xs ++ l) (sym (set-append_left ys (post_of a k xs) j v g))
-    ∙ sym (set_past (take a xs) (ys ++ post_of a k xs) j v)
-    ∙ ap (λ n. set (put_mid a k xs ys) (n + j) v) (length-take-le a xs h)
+tab-same : {A : Type 0} (n : ℕ) (v : A) → tab n (λ (i : ℕ). v) ≡ replicate n v
+unfolding tab
+tab-same zero v = refl
+tab-same {A} (suc n) v = ap (λ (l : List A). v ∷ l) (tab-same n v)
 
-part-sets : {A : Type 0} (a k : ℕ) (xs : List A) (vs ys : List A) (j : ℕ) → a ≤ length xs → j + length vs ≤ length ys
-    → put_mid a k xs (sets ys j vs) ≡ sets (put_mid a k xs ys) (a + j) vs
-part-sets a k xs [] ys j h g = refl
-part-sets {A} a k xs (v ∷ vs) ys j h g =
-    part-sets a k xs vs (set ys j v) (suc j) h (simp length-set (omega (arith, add-suc j (length vs))))
-    ∙ ap (λ (l : List A). sets l (a + suc j) vs) (part-set a k xs ys j v h (omega (arith, add-suc j (length vs))))
-    ∙ ap (λ n. sets (set (put_mid a k xs ys) (a + j) v) n vs) (add-suc a j)
+-- `m[start..start + n]` filled with v
+pub slot-filled : (m l : List ℕ) (start n v : ℕ) → start + n ≤ length m → l ≡ replicate n v → put_mid start (start + n - start) m l ≡ slot_set m start n (λ k. v)
+unfolding slot_set
+slot-filled m l start n v h e =
+    let t = e ∙ sym (tab-same n v) in
+    ap (put_mid start (start + n - start) m) t
+    ∙ part-written start (start + n) m (tab n (λ k. v)) (ap (λ k. start + k) (length-tab n (λ (k : ℕ). v))) h
 
--- `f(&mut xs[a..])`, where f leaves `sets _ 0 vs` of the part, leaves `sets xs a vs`
-pub part_filled : {A : Type 0} (a : ℕ) (xs vs e : List A) → a + length vs ≤ length xs
-    → e ≡ sets (mid_of a (length xs - a) xs) 0 vs → put_mid a (length xs - a) xs e ≡ sets xs a vs
-part_filled {A} a xs vs e h q =
-    ap (λ (l : List A). put_mid a (length xs - a) xs l) q
-    ∙ part-sets a (length xs - a) xs vs (mid_of a (length xs - a) xs) 0 (omega arith) (omega (arith, mid_len a (length xs) xs (le_refl (length xs))))
-    ∙ ap (λ (l : List A). sets l (a + 0) vs) (put_same a (length xs - a) xs)
-    ∙ ap (λ n. sets xs n vs) (add-zero a)
+four-words : (row : List ℕ) → length row ≡ 4 → row ≡ four_words row
+four-words [] e = absurd (omega arith)
+four-words (a ∷ []) e = absurd (omega arith)
+four-words (a ∷ b ∷ []) e = absurd (omega arith)
+four-words (a ∷ b ∷ c ∷ []) e = absurd (omega arith)
+four-words (a ∷ b ∷ c ∷ d ∷ []) e = refl
+four-words (a ∷ b ∷ c ∷ d ∷ x ∷ row) e = absurd (omega arith)
+
+-- the four words of row r written over
+pub row-written : (m l row : List ℕ) (r : ℕ) → row_start r + 4 ≤ length m → length row ≡ 4 → l ≡ row → put_mid (row_start r) (row_start r + 4 - row_start r) m l ≡ row_set m r row
+unfolding row_set
+row-written m l row r h f e =
+    ap (put_mid (row_start r) (row_start r + 4 - row_start r) m) (e ∙ four-words row f)
+    ∙ part-written (row_start r) (row_start r + 4) m (four_words row) refl h
 
 -- ---- every element made one value
 

@@ -4,6 +4,8 @@
 use Rattle.std.specs.Prelude.{◌≡◌, Bool, ◌&&◌, List, [], ◌∷◌, ℕ, ◌+◌, ◌*◌, ◌-◌, ◌/◌, ◌%◌, ◌<◌, ◌≤◌, eqb, leb, ltb, length, get_or}
 use Rattle.bitrow.specs.Bit.{bit}
 use Rattle.store.specs.declared.Band.{Band}
+use Rattle.store.specs.declared.Part.{Part}
+use Rattle.store.specs.declared.Part.TheVariants.{Select, Allow}
 
 abbrev pub settings_size : ℕ
 settings_size = 3
@@ -33,6 +35,10 @@ select_offset = part_offset 0
 
 abbrev pub allow_offset : ℕ
 allow_offset = part_offset 1
+
+abbrev pub offset_of : Part → ℕ
+offset_of Select = select_offset
+offset_of Allow = allow_offset
 
 abbrev pub rows_start : ℕ
 rows_start = policies_start + 128 * policy_words
@@ -69,6 +75,10 @@ selected_band = record { first = 256; step = 2; count = 128 }
 
 abbrev pub allowed_band : Band
 allowed_band = record { first = 257; step = 2; count = 128 }
+
+abbrev pub band_of : Part → Band
+band_of Select = selected_band
+band_of Allow = allowed_band
 
 -- where row i of a table stands
 abbrev pub band_row : Band → ℕ → ℕ

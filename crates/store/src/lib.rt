@@ -1,6 +1,9 @@
 // The memory's layout. What its words and bits are, and what each write makes of them, is defined in specs/ and proved in proofs/.
 #![tactic(auto)]
 
+ghost use Rattle.std.specs.Prelude.{◌≡◌, ◌<◌};
+ghost use Rattle.store.specs.Layout.{InRows, band_row, offset_of, band_of};
+
 // ---- the layout (docs/MEMORY.md): three words of settings, the slots of containers and of policies, the rows of bits
 
 pub const SETTINGS_WORDS: usize = 3;
@@ -54,6 +57,15 @@ pub struct Band {
     pub count: usize,
 }
 
+impl Band {
+    pub fn row(self, i: usize) -> usize
+        requires { InRows self × (i < self.count) }
+        ensures { result ≡ band_row self i }
+    {
+        self.first + self.step * i
+    }
+}
+
 pub const MATRIX: Band = Band {
     first: 0,
     step: 1,
@@ -67,14 +79,36 @@ pub const ALLOWED_ROWS: usize = SELECTED_ROWS + 1;
 
 pub const SET_STEP: usize = 2;
 
-pub const SELECTED: Band = Band {
-    first: SELECTED_ROWS,
-    step: SET_STEP,
-    count: POLICY_SLOTS,
-};
+// A policy's two parts: each has labels in the policy's slot, and a set among the rows.
+#[derive(Clone, Copy)]
+pub enum Part {
+    Select,
+    Allow,
+}
 
-pub const ALLOWED: Band = Band {
-    first: ALLOWED_ROWS,
-    step: SET_STEP,
-    count: POLICY_SLOTS,
-};
+impl Part {
+    // Where the labels begin in the slot.
+    pub fn offset(self) -> usize
+        ensures { result ≡ offset_of self }
+    {
+        match self {
+            Part::Select => SELECT,
+            Part::Allow => ALLOW,
+        }
+    }
+
+    // The table of the sets, a row for each policy.
+    pub fn band(self) -> Band
+        ensures { result ≡ band_of self }
+    {
+        let first = match self {
+            Part::Select => SELECTED_ROWS,
+            Part::Allow => ALLOWED_ROWS,
+        };
+        Band {
+            first,
+            step: SET_STEP,
+            count: POLICY_SLOTS,
+        }
+    }
+}

@@ -6,19 +6,20 @@ ghost use Rattle.bitrow.specs.Bit.{bit, bit_at};
 ghost use Rattle.bitrow.specs.Set.{meet, under};
 ghost use Rattle.model.specs.Table.{stands};
 ghost use Rattle.store.specs.Layout.{Whole};
-ghost use Rattle.formed.specs.Registry.{model_in, bits_in};
+ghost use Rattle.formed.specs.Registry.{bits_in, set_in};
 ghost use Rattle.formed.specs.Tests.{firsts};
 
+use entries::Slot;
+use store::Part;
+
 // A bit for each of 64 slots, `step` words apart from word `at` on: set where the slot's first word is this one.
+// Kept: the memory with `at`, since slices of 64 slots would say no less of where they stand, and the clause speaks of the memory's words.
 pub fn slots_with(memory: &[u64], at: usize, step: usize, first: u64) -> u64
     requires { (at + 64 * step ≤ length memory.now) × (0 < step) }
     ensures { bit result ≡ meet (firsts memory.now at step first) (under 64) }
 {
-    let mut word = 0u64;
-    let mut i = 0;
-    while i < 64 {
-        let k = i;
-        i += 1;
+    let mut word = 0;
+    for k in 0..64 {
         if memory[at + step * k] == first {
             word = bitrow::word_with(word, k);
         }
@@ -26,44 +27,23 @@ pub fn slots_with(memory: &[u64], at: usize, step: usize, first: u64) -> u64
     word
 }
 
-// The standing containers.
-pub fn containers_standing(memory: &[u64]) -> [u64; 4]
+// The standing slots of a table.
+pub fn standing<S: Slot>(memory: &[u64]) -> [u64; 4]
     requires { Whole memory.now }
-    ensures { bit_at result ≡ stands (model_in memory.now).containers }
+    ensures { bit_at result ≡ stands (S.table memory.now) }
 {
-    [
-        !slots_with(memory, store::CONTAINERS, store::CONTAINER_WORDS, 0),
-        !slots_with(memory, store::CONTAINERS_64, store::CONTAINER_WORDS, 0),
-        !slots_with(memory, store::CONTAINERS_128, store::CONTAINER_WORDS, 0),
-        !slots_with(memory, store::CONTAINERS_192, store::CONTAINER_WORDS, 0),
-    ]
+    let words = S::WORDS;
+    let mut row = [0; 4];
+    for k in 0..S::SLOTS / 64 {
+        row[k] = !slots_with(memory, S::START + 64 * words * k, words, 0);
+    }
+    row
 }
 
-// The standing policies.
-pub fn policies_standing(memory: &[u64]) -> [u64; 4]
-    requires { Whole memory.now }
-    ensures { bit_at result ≡ stands (model_in memory.now).policies }
-{
-    [
-        !slots_with(memory, store::POLICIES, store::POLICY_WORDS, 0),
-        !slots_with(memory, store::POLICIES_64, store::POLICY_WORDS, 0),
-        0,
-        0,
-    ]
-}
-
-// What policy q selects, as stored.
-pub fn stored_selected(memory: &[u64], q: usize) -> [u64; 4]
+// What policy q selects or allows, as stored.
+pub fn stored_set(memory: &[u64], part: Part, q: usize) -> [u64; 4]
     requires { Whole memory.now × (q < 128) }
-    ensures { bit_at result ≡ (bits_in memory.now).selected q }
+    ensures { bit_at result ≡ set_in (bits_in memory.now) part q }
 {
-    access::row_at(memory, store::SELECTED_ROWS + store::SET_STEP * q)
-}
-
-// What it allows, as stored.
-pub fn stored_allowed(memory: &[u64], q: usize) -> [u64; 4]
-    requires { Whole memory.now × (q < 128) }
-    ensures { bit_at result ≡ (bits_in memory.now).allowed q }
-{
-    access::row_at(memory, store::ALLOWED_ROWS + store::SET_STEP * q)
+    access::row_at(memory, part.band().row(q))
 }
