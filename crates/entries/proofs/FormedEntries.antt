@@ -7,7 +7,7 @@ use native.Mathlib.Decide.{ℕ_discrete}
 use native.Mathlib.Omega.{arith}
 use lib.Dec.{eqb}
 use Rattle.block.specs.Written.{valid_labels}
-use Rattle.model.specs.Table.{on, at, stands}
+use Rattle.model.specs.Table.{on, stands}
 use Rattle.model.specs.Rules.{carries}
 use Rattle.model.specs.Model.{container_slots, policy_slots}
 use Rattle.model.specs.Findings.{same_user, is_system}

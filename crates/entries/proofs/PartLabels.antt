@@ -1,11 +1,16 @@
 -- A label as one word, and the labels of a part read one after another.
 use mathlib.Core.Path.{◌≡◌, refl, sym, ap, ap₂, ◌∙◌}
 use mathlib.Core.Bool.{Bool, true, false, ◌&&◌, ◌||◌, cond, or_assoc, or-false}
-use mathlib.Core.List.{List, [], ◌∷◌}
+use mathlib.Core.List.{List, [], ◌∷◌, map}
 use Prim.Native.Nat.{ℕ, zero, suc, ◌+◌, ◌*◌, ◌-◌, ◌/◌, ◌%◌, ◌<◌, ◌≤◌}
 use native.Mathlib.Decide.{dec_lt}
 use native.Mathlib.Omega.{arith}
 use lib.Dec.{eqb}
+use lib.ListN.{length, get_or, take, drop, length-take, length-drop}
+use Rattle.std.proofs.lemmas.List.{get_or-take, get_or-drop}
+use Rattle.std.specs.Prelude.{Some, unwrap_or}
+use Rattle.std.specs.List.{list_any, find}
+use Rattle.std.proofs.Math.Seq.{drop-cons}
 use borrow.Author.Tests.{eqb-true, eq-eqb, ne_eqb}
 use Rattle.block.specs.Entry.{Label, Container}
 use Rattle.bitrow.specs.Set.{some}
@@ -16,7 +21,7 @@ use Rattle.store.specs.Layout.{word_at}
 use Rattle.store.proofs.Cases.{by_eqb}
 use Rattle.formed.specs.Words.{label_in, labels_in, part_in}
 use Rattle.formed.proofs.Parts.{label-word}
-use Rattle.entries.specs.Entries.{word_under}
+use Rattle.entries.specs.Entries.{PartWithin, label_words, word_under}
 
 -- ---- a label is one word
 
@@ -125,24 +130,61 @@ module _ (m : List ℕ) where
     unfolding matches
     matches-done h = ap (λ ls. matches ls c) (labels-end i end h)
 
-  -- the first of them under the key k
+-- ---- the words of a part's labels
 
-  pub under-part : (p k : ℕ) → word_under k (part_in m p) ≡ word_under k (labels_from (p + 1) (p + word_at m p))
-  under-part p k = ap (word_under k) (part-labels p)
+labels-words : (m : List ℕ) (n at : ℕ) → at + n ≤ length m → labels_in m at n ≡ map label_in (take n (drop at m))
+labels-words m zero at h = refl
+labels-words m (suc n) at h =
+    let l : at < length m = omega arith in
+    let e : suc at ≡ at + 1 = omega arith in
+    ap (λ ls. label_in (word_at m at) ∷ ls) (labels-words m n (at + 1) (omega arith) ∙ ap (λ (i : ℕ). map label_in (take n (drop i m))) (sym e))
+    ∙ sym (ap (λ ws. map label_in (take (suc n) ws)) (drop-cons m at 0 l))
 
-  module _ (k i end : ℕ) where
-    under_next : i < end → word_under k (labels_from i end) ≡ cond (eqb (word_at m i / 65536) k) (word_at m i) (word_under k (labels_from (i + 1) end))
-    unfolding word_under label_in
-    under_next h =
-        ap (word_under k) (labels_next i end h)
-        ∙ ap (λ w. cond (eqb (word_at m i / 65536) k) w (word_under k (labels_from (i + 1) end))) (label-word (word_at m i))
+module _ (m : List ℕ) (p : ℕ) (w : PartWithin m p) where
+  pub part_words : map label_in (label_words m p) ≡ part_in m p
+  unfolding part_in
+  part_words =
+      let h = w.header in
+      let l = w.labels in
+      let e : p + 1 + (word_at m p - 1) - (p + 1) ≡ word_at m p - 1 = omega arith in
+      ap (λ n. map label_in (take n (drop (p + 1) m))) e ∙ sym (labels-words m (word_at m p - 1) (p + 1) (omega arith))
 
-    pub under-hit : i < end → word_at m i / 65536 ≡ k → word_under k (labels_from i end) ≡ word_at m i
-    under-hit h e = under_next h ∙ ap (λ t. cond t (word_at m i) (word_under k (labels_from (i + 1) end))) (eq-eqb (word_at m i / 65536) k e)
+  pub label-count : length (label_words m p) ≡ word_at m p - 1
+  label-count =
+      let h = w.header in
+      let l = w.labels in
+      omega (arith, length-take (p + 1 + (word_at m p - 1) - (p + 1)) (drop (p + 1) m), length-drop (p + 1) m)
 
-    pub under-skip : i < end → (word_at m i / 65536 ≡ k → ⊥) → word_under k (labels_from i end) ≡ word_under k (labels_from (i + 1) end)
-    under-skip h o = under_next h ∙ ap (λ t. cond t (word_at m i) (word_under k (labels_from (i + 1) end))) (ne_eqb (word_at m i / 65536) k o)
+  -- word k of them
+  module _ (k : ℕ) where
+    pub label-before : k < length (label_words m p) → p + 1 + k < p + word_at m p
+    label-before h = omega (arith, label-count)
 
-    pub under-done : end ≤ i → word_under k (labels_from i end) ≡ 0
-    unfolding word_under
-    under-done h = ap (word_under k) (labels-end i end h)
+    pub label-behind : length (label_words m p) ≤ k → p + word_at m p ≤ p + 1 + k
+    label-behind h = omega (arith, label-count)
+
+    pub nth-label : k < length (label_words m p) → get_or (label_words m p) k 0 ≡ word_at m (p + 1 + k)
+    nth-label h = get_or-take (p + 1 + (word_at m p - 1) - (p + 1)) (drop (p + 1) m) k 0 (omega (arith, label-count)) ∙ get_or-drop (p + 1) m k 0
+
+eqb-other : (a b : ℕ) → eqb a b ≡ eqb b a
+eqb-other a b = same_test (eqb a b) (eqb b a) (λ e. eq-eqb b a (sym (eqb-true a b e))) (λ e. eq-eqb a b (sym (eqb-true b a e)))
+
+-- one of them is the label w
+pub carries-any : (ws : List ℕ) (w : ℕ) → carries (map label_in ws) (label_in w) ≡ list_any (λ y. eqb y w) ws
+unfolding carries
+carries-any [] w = refl
+carries-any (x ∷ ws) w = ap₂ ◌||◌ (same_word-law w x ∙ eqb-other w x) (carries-any ws w)
+
+-- the first of them under the key k
+module _ (k : ℕ) where
+  abbrev pub keyed : ℕ → Bool
+  keyed w = eqb (w / 65536) k
+
+  pub under-find : (ws : List ℕ) → word_under k (map label_in ws) ≡ unwrap_or (find keyed ws) 0
+  unfolding word_under label_in
+  under-find [] = refl
+  under-find (x ∷ ws) = ap (λ w. cond (keyed x) w (word_under k (map label_in ws))) (label-word x) ∙ go (keyed x) (under-find ws)
+    where
+      go : (t : Bool) → word_under k (map label_in ws) ≡ unwrap_or (find keyed ws) 0 → cond t x (word_under k (map label_in ws)) ≡ unwrap_or (cond t (Some x) (find keyed ws)) 0
+      go true e = refl
+      go false e = e

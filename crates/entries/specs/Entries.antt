@@ -1,5 +1,5 @@
 -- What the readers of entries give.
-use Rattle.std.specs.Prelude.{◌≡◌, Bool, false, cond, List, [], ◌∷◌, ℕ, ◌+◌, ◌*◌, ◌≤◌, ◌<◌, eqb, length}
+use Rattle.std.specs.Prelude.{◌≡◌, Bool, false, cond, List, [], ◌∷◌, ℕ, ◌+◌, ◌*◌, ◌-◌, ◌≤◌, ◌<◌, eqb, length, slice_range, Option as Search, Some, None}
 use Rattle.std.proofs.Math.Option.{Option, none, some}
 use Rattle.block.specs.Entry.{Label}
 use Rattle.bitrow.specs.Set.{meet}
@@ -8,15 +8,15 @@ use Rattle.model.specs.Model.{container_slots, policy_slots}
 use Rattle.model.specs.Rules.{matches}
 use Rattle.store.specs.Layout.{word_at, containers_start, container_words, select_offset, allow_offset, container_start, policy_start}
 use Rattle.formed.specs.Words.{label_word, part_in}
-use Rattle.entries.specs.declared.FreeContainer.{FreeContainer}
-use Rattle.entries.specs.declared.FreeContainer.TheVariants as container
-use Rattle.entries.specs.declared.FreePolicy.{FreePolicy}
-use Rattle.entries.specs.declared.FreePolicy.TheVariants as policy
 
 -- the part whose header is at `at` lies within the memory
 pub record PartWithin (m : List ℕ) (at : ℕ) : Type 0 where
   pub header : at < length m
   pub labels : at + word_at m at ≤ length m
+
+-- the words of its labels
+abbrev pub label_words : List ℕ → ℕ → List ℕ
+label_words m at = slice_range m (at + 1) (at + 1 + (word_at m at - 1))
 
 -- and none of its labels is the word zero
 pub record PartOfLabels (m : List ℕ) (at : ℕ) : Type 0 where
@@ -81,11 +81,7 @@ module _ {A : Type 0} where
   pub record NoneFree (t : Table A) (n : ℕ) : Type 0 where
     pub below : (i : ℕ) → i < n → free t i ≡ false
 
--- the answer of the search in each table
-abbrev pub free_container : Option ℕ → FreeContainer
-free_container none = container.Full
-free_container (some c) = container.At (record { 0 = c })
-
-abbrev pub free_policy : Option ℕ → FreePolicy
-free_policy none = policy.Full
-free_policy (some q) = policy.At (record { 0 = q })
+-- the answer of the search: the slot of that number
+abbrev pub slot_found : {S : Type 0} → (ℕ → S) → Option ℕ → Search S
+slot_found slot none = None
+slot_found slot (some i) = Some (slot i)

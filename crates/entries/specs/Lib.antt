@@ -1,2 +1,3 @@
 -- What the contracts of `entries` cite.
 pub mod Entries
+pub mod Tables

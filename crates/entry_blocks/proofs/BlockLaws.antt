@@ -1,16 +1,14 @@
 -- A block's bytes, put one number after another: the labels of a part, and the whole front of each sort of block.
 use mathlib.Core.Path.{◌≡◌, refl, sym, ap, ap₂, ◌∙◌, subst}
-use mathlib.Core.List.{List, [], ◌∷◌, ◌++◌}
-use Prim.Native.Nat.{ℕ, zero, suc, ◌+◌, ◌*◌, ◌-◌, ◌/◌, ◌%◌, ◌<◌, ◌≤◌}
-use native.Mathlib.Nat.{add-zero}
+use mathlib.Core.List.{List, [], ◌∷◌, ◌++◌, map}
+use Prim.Native.Nat.{ℕ, zero, suc, ◌+◌, ◌*◌, ◌/◌, ◌%◌, ◌<◌, ◌≤◌}
 use native.Mathlib.Omega.{arith}
-use lib.ListN.{length, take, length-append}
+use lib.ListN.{length, get_or, take, length-append, length-map, length-take}
+use lib.Seq.{take_all}
 use Rattle.block.specs.Entry.{Label, Settings, Policy, container, policy}
 use Rattle.block.specs.Written.{number_bytes, label_bytes, direction_number, sealed, block_of, settings_block}
 use Rattle.block.proofs.LabelLists.{length-bytes}
-use Rattle.store.specs.Layout.{word_at}
-use Rattle.formed.specs.Words.{label_in, labels_in, part_in}
-use Rattle.formed.proofs.Parts.{length-labels-in}
+use Rattle.formed.specs.Words.{label_in}
 use Rattle.sealing.specs.Sealing.{Summed, Lengthens}
 use Rattle.sealing.proofs.SealingLaws.{lengthens-then, lengthens-none, sealed-front}
 use Rattle.entry_blocks.specs.Labels.{LabelsFit}
@@ -25,83 +23,63 @@ high-and-low n high low e h =
 
 -- ---- labels
 
--- behind labels, whose count is known
-labels-summed : {d e : List ℕ} {at sum : ℕ} (ls : List Label) (n : ℕ) → length ls ≡ n → Lengthens d at (label_bytes ls) e sum → Summed e (at + 4 * n) sum
-labels-summed {d} {e} {at} {sum} ls n q g =
-    let k : at + length (label_bytes ls) ≡ at + 4 * n = omega (arith, length-bytes ls) in
-    subst (λ (i : ℕ). Summed e i sum) k g.summed
+abbrev labelled : List ℕ → List Label
+labelled ws = map label_in ws
 
--- a part has one label less than its header says
-pub part_count : (m : List ℕ) (p : ℕ) → length (part_in m p) ≡ word_at m p - 1
-unfolding part_in
-part_count m p = length-labels-in m (p + 1) (word_at m p - 1)
-
-pub part-summed : (m : List ℕ) (p : ℕ) {d e : List ℕ} {at sum : ℕ} → Lengthens d at (label_bytes (part_in m p)) e sum → Summed e (at + 4 * (word_at m p - 1)) sum
-part-summed m p g = labels-summed (part_in m p) (word_at m p - 1) (part_count m p) g
-
--- n labels and the next word's
-labels-then : (m : List ℕ) (n s : ℕ) → let w = word_at m (s + n) in
-    label_bytes (labels_in m s n) ++ (number_bytes (w / 65536) ++ number_bytes (w % 65536)) ≡ label_bytes (labels_in m s (suc n))
+-- k labels and the next word's
+labels-then : (ws : List ℕ) (k : ℕ) → k < length ws → let w = get_or ws k 0 in
+    label_bytes (labelled (take k ws)) ++ (number_bytes (w / 65536) ++ number_bytes (w % 65536)) ≡ label_bytes (labelled (take (suc k) ws))
 unfolding label_in
-labels-then m zero s = ap (λ (k : ℕ). label_bytes (label_in (word_at m k) ∷ [])) (add-zero s)
-labels-then m (suc n) s =
-    let e : s + suc n ≡ s + 1 + n = omega arith in
-    ap (λ (k : ℕ). label_bytes (labels_in m s (suc n)) ++ label_bytes (label_in (word_at m k) ∷ [])) e
-    ∙ ap (λ (l : List ℕ). number_bytes (word_at m s / 65536) ++ (number_bytes (word_at m s % 65536) ++ l)) (labels-then m n (s + 1))
+labels-then [] k h = absurd (omega arith)
+labels-then (x ∷ ws) zero h = refl
+labels-then (x ∷ ws) (suc k) h =
+    let l : k < length ws = omega arith in
+    ap (λ (l : List ℕ). number_bytes (x / 65536) ++ (number_bytes (x % 65536) ++ l)) (labels-then ws k l)
 
--- the labels of a part that stand before word i are put, up to byte `to`
-pub record LabelsPut (m : List ℕ) (part : ℕ) (d : List ℕ) (at : ℕ) (e : List ℕ) (i to sum : ℕ) : Type 0 where
-  pub from : part + 1 ≤ i
-  pub until : i ≤ part + 1 + (word_at m part - 1)
-  pub place : to ≡ at + 4 * (i - (part + 1))
-  pub bytes : Lengthens d at (label_bytes (labels_in m (part + 1) (i - (part + 1)))) e sum
+bytes-length : (ws : List ℕ) (k : ℕ) → k ≤ length ws → length (label_bytes (labelled (take k ws))) ≡ 4 * k
+bytes-length ws k h = omega (arith, length-bytes (labelled (take k ws)), length-map (take k ws) label_in, length-take k ws)
 
-pub put-none : {m d : List ℕ} {part at sum : ℕ} → Summed d at sum → LabelsPut m part d at d (part + 1) at sum
-put-none {m} {d} {part} {at} {sum} g =
-    let z : 0 ≡ part + 1 - (part + 1) = omega arith in
-    record {
-      from = omega arith;
-      until = omega arith;
-      place = omega arith;
-      bytes = subst (λ (n : ℕ). Lengthens d at (label_bytes (labels_in m (part + 1) n)) d sum) z (lengthens-none g);
-    }
+-- the first k labels are put, up to byte `to`
+pub record LabelsPut (ws : List ℕ) (d : List ℕ) (at : ℕ) (e : List ℕ) (k to sum : ℕ) : Type 0 where
+  pub until : k ≤ length ws
+  pub place : to ≡ at + 4 * k
+  pub bytes : Lengthens d at (label_bytes (labelled (take k ws))) e sum
 
-module _ {m d e : List ℕ} {part at i to sum : ℕ} (g : LabelsPut m part d at e i to sum) where
-  abbrev done : ℕ
-  done = i - (part + 1)
+pub put-none : {ws d : List ℕ} {at sum : ℕ} → Summed d at sum → LabelsPut ws d at d 0 at sum
+put-none g = record { until = omega arith; place = omega arith; bytes = lengthens-none g }
+
+module _ {ws d e : List ℕ} {at k to sum : ℕ} (g : LabelsPut ws d at e k to sum) where
+  behind : to ≡ at + length (label_bytes (labelled (take k ws)))
+  behind = omega (arith, g.place, bytes-length ws k g.until)
 
   pub put-summed : Summed e to sum
-  put-summed = subst (λ (k : ℕ). Summed e k sum) (sym g.place) (labels-summed (labels_in m (part + 1) done) done (length-labels-in m (part + 1) done) g.bytes)
+  put-summed = subst (λ (i : ℕ). Summed e i sum) (sym behind) g.bytes.summed
 
   -- room for one more
-  pub put-room : LabelsFit m part at → i < part + word_at m part → to + 4 ≤ 510
-  put-room f l = omega (arith, g.place, g.from, f.room)
+  pub put-room : LabelsFit ws at → k < length ws → to + 4 ≤ 510
+  put-room f l = omega (arith, g.place, f.room)
 
-  pub put_next : i < part + word_at m part → {f h : List ℕ} {r s : ℕ} → Lengthens e to (number_bytes (word_at m i / 65536)) f r
-      → Lengthens f (to + 2) (number_bytes (word_at m i % 65536)) h s → LabelsPut m part d at h (i + 1) (to + 4) s
-  unfolding label_in
+  pub put_next : k < length ws → {f h : List ℕ} {r s : ℕ} → Lengthens e to (number_bytes (get_or ws k 0 / 65536)) f r
+      → Lengthens f (to + 2) (number_bytes (get_or ws k 0 % 65536)) h s → LabelsPut ws d at h (k + 1) (to + 4) s
   put_next l {f} {h} {r} {s} x y =
-      let ls = labels_in m (part + 1) done in
-      let w = word_at m i in
-      let behind : to ≡ at + length (label_bytes ls) = omega (arith, g.place, length-bytes ls, length-labels-in m (part + 1) done) in
-      let word : i ≡ part + 1 + done = omega (arith, g.from) in
-      let next : suc done ≡ i + 1 - (part + 1) = omega (arith, g.from) in
+      let w = get_or ws k 0 in
+      let next : suc k ≡ k + 1 = omega arith in
       let four : Lengthens e to (number_bytes (w / 65536) ++ number_bytes (w % 65536)) h s = lengthens-then x y in
       record {
-        from = omega (arith, g.from);
-        until = omega (arith, g.until);
-        place = omega (arith, g.place, g.from);
-        bytes = subst (λ (t : List ℕ). Lengthens d at t h s)
-            (ap (λ (k : ℕ). label_bytes ls ++ label_bytes (label_in (word_at m k) ∷ [])) word ∙ labels-then m done (part + 1)
-            ∙ ap (λ (n : ℕ). label_bytes (labels_in m (part + 1) n)) next)
-            (lengthens-then g.bytes (subst (λ (k : ℕ). Lengthens e k (number_bytes (w / 65536) ++ number_bytes (w % 65536)) h s) behind four));
+        until = omega arith;
+        place = omega (arith, g.place);
+        bytes = subst (λ (t : List ℕ). Lengthens d at t h s) (labels-then ws k l ∙ ap (λ (n : ℕ). label_bytes (labelled (take n ws))) next)
+            (lengthens-then g.bytes (subst (λ (i : ℕ). Lengthens e i (number_bytes (w / 65536) ++ number_bytes (w % 65536)) h s) behind four));
       }
 
-  pub put_all : part + word_at m part ≤ i → Lengthens d at (label_bytes (part_in m part)) e sum
-  unfolding part_in
-  put_all l =
-      let n : done ≡ word_at m part - 1 = omega (arith, g.until, g.from) in
-      subst (λ (k : ℕ). Lengthens d at (label_bytes (labels_in m (part + 1) k)) e sum) n g.bytes
+  pub put_all : length ws ≤ k → Lengthens d at (label_bytes (labelled ws)) e sum
+  put_all l = subst (λ (v : List ℕ). Lengthens d at (label_bytes (labelled v)) e sum) (take_all k ws l) g.bytes
+
+-- behind all of them
+pub labels-summed : (ws : List ℕ) {d e : List ℕ} {at sum : ℕ} → Lengthens d at (label_bytes (map label_in ws)) e sum → Summed e (at + 4 * length ws) sum
+labels-summed ws {d} {e} {at} {sum} g =
+    let k : at + length (label_bytes (map label_in ws)) ≡ at + 4 * length ws = omega (arith, length-bytes (map label_in ws), length-map ws label_in) in
+    subst (λ (i : ℕ). Summed e i sum) k g.summed
 
 -- ---- the front of a block
 

@@ -1,2 +1,3 @@
 -- What the contracts of `entry_blocks` cite.
 pub mod Labels
+pub mod Sizes

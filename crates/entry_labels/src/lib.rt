@@ -7,34 +7,24 @@ ghost use Rattle.formed.specs.Words.{label_in, part_in};
 ghost use Rattle.entries.specs.Entries.{PartWithin, word_under};
 
 // Whether the part whose header is at `at` has the label that is this word.
+// Kept: the memory with a position: a slice of the part's labels would be no plainer, since the clause is of a part of the memory, and each
+// caller would call `labels_of` for it.
 pub fn carries(memory: &[u64], at: usize, word: u64) -> bool
     requires { PartWithin memory.now at }
     ensures { result ≡ carries_label (part_in memory.now at) (label_in word) }
 {
-    let end = at + memory[at] as usize;
-    let mut i = at + 1;
-    while i < end {
-        if memory[i] == word {
-            return true;
-        }
-        i += 1;
-    }
-    false
+    entries::labels_of(memory, at).contains(&word)
 }
 
 // The word of the label under this key of the part whose header is at `at`, 0 where it has none.
+// Kept: as above.
 pub fn word_under(memory: &[u64], at: usize, key: u64) -> u64
     requires { PartWithin memory.now at }
     ensures { result ≡ word_under key (part_in memory.now at) }
 {
-    let end = at + memory[at] as usize;
-    let mut i = at + 1;
-    while i < end {
-        let word = memory[i];
-        if word / 65536 == key {
-            return word;
-        }
-        i += 1;
-    }
-    0
+    entries::labels_of(memory, at)
+        .iter()
+        .copied()
+        .find(|word| *word / 65536 == key)
+        .unwrap_or(0)
 }

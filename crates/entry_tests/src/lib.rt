@@ -1,11 +1,14 @@
 // The test of the words before the rows: settings, and each slot of a container and of a policy.
 #![tactic(auto)]
 
-ghost use Rattle.std.specs.Prelude.{◌≡◌, ◌<◌};
+ghost use Rattle.std.specs.Prelude.{◌≡◌, ◌<◌, Bool, List, ℕ};
 ghost use Rattle.block.specs.Written.{valid_settings};
 ghost use Rattle.store.specs.Layout.{Whole};
 ghost use Rattle.formed.specs.Words.{settings_in};
-ghost use Rattle.formed.specs.Tests.{container_ok, policy_ok, containers_ok, policies_ok};
+ghost use Rattle.formed.specs.Tests.{between, container_ok, policy_ok};
+
+use entries::Slot;
+use model::{ContainerSlot, PolicySlot};
 
 pub fn settings_ok(memory: &[u64]) -> bool
     requires { Whole memory.now }
@@ -21,59 +24,56 @@ pub fn settings_ok(memory: &[u64]) -> bool
     user & ((key <= 64) & system)
 }
 
-fn container_ok(memory: &[u64], c: usize) -> bool
-    requires { Whole memory.now × (c < 256) }
-    ensures { result ≡ container_ok memory.now c }
-{
-    let at = store::CONTAINERS + store::CONTAINER_WORDS * c;
-    if memory[at] == 0 {
-        return part_tests::zeros(memory, at, at + store::CONTAINER_WORDS);
-    }
-    part_tests::part_ok(memory, at, store::CONTAINER_LABELS)
+// A slot whose words can be tested.
+pub trait Tested: Slot {
+    ghost ok: { List ℕ → ℕ → Bool };
+
+    // Whether the words of the slot are zero, or those of an entry.
+    fn ok(self, memory: &[u64]) -> bool
+        requires { Whole memory.now × (Self.index self < Self.SLOTS) }
+        ensures { result ≡ ok memory.now (Self.index self) };
 }
 
-fn policy_ok(memory: &[u64], q: usize) -> bool
-    requires { Whole memory.now × (q < 128) }
-    ensures { result ≡ policy_ok memory.now q }
-{
-    let at = store::POLICIES + store::POLICY_WORDS * q;
-    let direction = memory[at];
-    if direction == 0 {
-        return part_tests::zeros(memory, at, at + store::POLICY_WORDS);
+impl Tested for ContainerSlot {
+    ghost ok = { container_ok };
+
+    fn ok(self, memory: &[u64]) -> bool {
+        let at = store::CONTAINERS + store::CONTAINER_WORDS * self.0;
+        let slot = &memory[at..at + store::CONTAINER_WORDS];
+        if slot[0] == 0 {
+            return part_tests::zeros(slot);
+        }
+        part_tests::part_ok(slot)
     }
-    if 2 < direction {
-        return false;
-    }
-    if !part_tests::part_ok(memory, at + store::SELECT, store::PART_LABELS) {
-        return false;
-    }
-    part_tests::part_ok(memory, at + store::ALLOW, store::PART_LABELS)
 }
 
-pub fn containers_ok(memory: &[u64]) -> bool
-    requires { Whole memory.now }
-    ensures { result ≡ containers_ok memory.now }
-{
-    let mut c = 0;
-    while c < store::CONTAINER_SLOTS {
-        if !container_ok(memory, c) {
+impl Tested for PolicySlot {
+    ghost ok = { policy_ok };
+
+    fn ok(self, memory: &[u64]) -> bool {
+        let at = store::POLICIES + store::POLICY_WORDS * self.0;
+        let direction = memory[at];
+        if direction == 0 {
+            return part_tests::zeros(&memory[at..at + store::POLICY_WORDS]);
+        }
+        if 2 < direction {
             return false;
         }
-        c += 1;
-    }
-    true
-}
-
-pub fn policies_ok(memory: &[u64]) -> bool
-    requires { Whole memory.now }
-    ensures { result ≡ policies_ok memory.now }
-{
-    let mut q = 0;
-    while q < store::POLICY_SLOTS {
-        if !policy_ok(memory, q) {
+        if !part_tests::part_ok(&memory[at + store::SELECT..at + store::ALLOW]) {
             return false;
         }
-        q += 1;
+        part_tests::part_ok(&memory[at + store::ALLOW..at + store::POLICY_WORDS])
+    }
+}
+
+pub fn slots_ok<S: Tested>(memory: &[u64]) -> bool
+    requires { Whole memory.now }
+    ensures { result ≡ between (S.ok memory.now) 0 S.SLOTS }
+{
+    for i in 0..S::SLOTS {
+        if !S::at(i).ok(memory) {
+            return false;
+        }
     }
     true
 }

@@ -1,26 +1,29 @@
 -- The file: the settings block, and the blocks of the two tables.
-use mathlib.Core.Path.{◌≡◌, refl, sym, ap, ap₂, ◌∙◌, subst}
-use mathlib.Core.Bool.{true}
+use mathlib.Core.Path.{◌≡◌, refl, sym, ap, ap₂, ◌∙◌}
+use mathlib.Core.Bool.{cond}
 use mathlib.Core.List.{List, [], ◌∷◌, ◌++◌, map, flatten, append_assoc, map-append, map-map}
-use mathlib.Core.Option.{some}
+use mathlib.Core.Option.{none, some}
 use Prim.Native.Nat.{ℕ, ◌+◌, ◌*◌, ◌<◌, ◌≤◌}
 use native.Mathlib.Omega.{arith}
 use lib.ListN.{length, length-append}
 use borrow.Rule.Slice.PartMut.{put_mid}
-use Rattle.block.specs.Entry.{Container, Policy, container, policy}
+use Rattle.block.specs.Entry.{container, policy}
 use Rattle.block.specs.Written.{block_of, settings_block}
-use Rattle.block.proofs.Written.{written-length, settings-length}
+use Rattle.block.proofs.Written.{settings-length}
 use Rattle.buffer.specs.Buffer.{Puts}
 use Rattle.buffer.proofs.BufferLaws.{puts-size, puts-as, puts_then, puts-lent}
-use Rattle.model.specs.Table.{at}
+use Rattle.model.specs.Table.{Table, at}
 use Rattle.model.specs.Model.{Model, container_slots, policy_slots}
 use Rattle.model.specs.Findings.{containers_of, policies_of}
 use Rattle.model.specs.File.{standing_entries, file_entries, file_of}
 use Rattle.model.proofs.File.{entries-standing, entries_fit}
-use Rattle.store.specs.Layout.{word_at, container_start, policy_start}
-use Rattle.formed.specs.Words.{settings_in, part_in, policy_at}
-use Rattle.formed.specs.Registry.{model_in, valid_container, valid_policy, ValidEntries, EntriesFormed}
-use Rattle.formed.proofs.Reading.{container-slot, container-free, container-taken, policy-slot, policy-free, policy-taken}
+use borrow.Author.Tests.{eq-eqb, ne_eqb}
+use Rattle.store.specs.Layout.{word_at}
+use Rattle.store.proofs.Image.{length-tab, get_or-tab}
+use Rattle.formed.specs.Words.{settings_in}
+use Rattle.entries.specs.Tables.{slot_in, Tabled}
+use Rattle.formed.specs.Registry.{model_in, ValidEntries}
+use Rattle.entry_blocks.specs.Sizes.{container-size, policy-size}
 use Rattle.files.specs.Tables.{table_blocks, container_block, policy_block}
 use Rattle.files.proofs.TableLaws.{blocks-length, FreeSlot, TakenSlot}
 
@@ -49,12 +52,6 @@ module _ (m : Model) where
       omega (arith, ap length file-parts, length-append (s ++ c) (table_blocks policy_block m.policies), length-append s c, settings-length m.settings)
 
 module _ (m : Model) (valid : ValidEntries m) where
-  container-size : (c : ℕ) (x : Container) → at m.containers c ≡ some x → length (container_block x) ≡ 512
-  container-size c x e = written-length m.settings (container x) (subst (λ o. valid_container m.settings o ≡ true) e (valid.container c))
-
-  policy-size : (q : ℕ) (p : Policy) → at m.policies q ≡ some p → length (policy_block p) ≡ 512
-  policy-size q p e = written-length m.settings (policy p) (subst (λ o. valid_policy m.settings o ≡ true) e (valid.policy q))
-
   -- a block for the settings, and one for each standing entry
   pub file-size : length (file_of m) ≡ 512 * (1 + (length (containers_of m) + length (policies_of m)))
   file-size =
@@ -63,8 +60,8 @@ module _ (m : Model) (valid : ValidEntries m) where
       omega (
         arith,
         parts-length m,
-        blocks-length container_block 512 cs container-size,
-        blocks-length policy_block 512 ps policy-size,
+        blocks-length container_block 512 cs (container-size m valid),
+        blocks-length policy_block 512 ps (policy-size m valid),
         entries-standing cs,
         entries-standing ps,
       )
@@ -75,26 +72,23 @@ module _ (m : Model) (valid : ValidEntries m) where
       let ps = m.policies in
       omega (arith, entries-standing cs, entries_fit cs, valid.containers, entries-standing ps, entries_fit ps, valid.policies)
 
--- ---- the slots of a memory whose words say entries
+-- ---- the slots of a table of the memory
 
-module _ {m : List ℕ} (ok : EntriesFormed m) where
-  module _ {c : ℕ} (h : c < container_slots) where
-    pub free-container : word_at m (container_start c) ≡ 0 → FreeSlot (model_in m).containers c
-    free-container e = record { within = omega (arith, ok.entries.containers); slot = container-slot m c h ∙ container-free m c e }
+module _ {A : Type 0} {m : List ℕ} {first words n : ℕ} {entry : ℕ → A} {t : Table A} (g : Tabled first words n entry m t) where
+  pub table-length : length t ≡ n
+  table-length = ap (λ (u : Table A). length u) g.reads ∙ length-tab n (slot_in first words entry m)
 
-    pub taken-container : (word_at m (container_start c) ≡ 0 → ⊥) → TakenSlot container_block (model_in m).containers 512 c (part_in m (container_start c))
-    taken-container n =
-        let s = container-slot m c h ∙ container-taken m c n in
-        record { within = omega (arith, ok.entries.containers); slot = s; size = container-size (model_in m) ok.entries c (part_in m (container_start c)) s }
+  module _ {i : ℕ} (h : i < n) where
+    slot : at t i ≡ slot_in first words entry m i
+    slot = ap (λ (u : Table A). at u i) g.reads ∙ get_or-tab n (slot_in first words entry m) i none h
 
-  module _ {q : ℕ} (h : q < policy_slots) where
-    pub free-policy : word_at m (policy_start q) ≡ 0 → FreeSlot (model_in m).policies q
-    free-policy e = record { within = omega (arith, ok.entries.policies); slot = policy-slot m q h ∙ policy-free m q e }
+    pub free-slot : word_at m (first + words * i) ≡ 0 → FreeSlot t i
+    free-slot e = record { within = omega (arith, table-length); slot = slot ∙ ap (λ b. cond b none (some (entry i))) (eq-eqb (word_at m (first + words * i)) 0 e) }
 
-    pub taken-policy : (word_at m (policy_start q) ≡ 0 → ⊥) → TakenSlot policy_block (model_in m).policies 512 q (policy_at m q)
-    taken-policy n =
-        let s = policy-slot m q h ∙ policy-taken m q n in
-        record { within = omega (arith, ok.entries.policies); slot = s; size = policy-size (model_in m) ok.entries q (policy_at m q) s }
+    pub taken-slot : {f : A → List ℕ} → ((j : ℕ) (x : A) → at t j ≡ some x → length (f x) ≡ 512) → (word_at m (first + words * i) ≡ 0 → ⊥) → TakenSlot f t 512 i (entry i)
+    taken-slot size e =
+        let s : at t i ≡ some (entry i) = slot ∙ ap (λ b. cond b none (some (entry i))) (ne_eqb (word_at m (first + words * i)) 0 e) in
+        record { within = omega (arith, table-length); slot = s; size = size i (entry i) s }
 
 -- ---- the file of a memory, put part by part
 

@@ -5,42 +5,22 @@ ghost use Rattle.std.specs.Prelude.{◌≡◌, ◌+◌, ◌≤◌, length};
 ghost use Rattle.buffer.specs.Buffer.{Puts};
 ghost use Rattle.model.specs.File.{file_of};
 ghost use Rattle.formed.specs.Registry.{model_in, EntriesFormed};
-ghost use Rattle.files.specs.Tables.{table_blocks, container_block, policy_block};
+ghost use Rattle.files.specs.Tables.{table_blocks, block_by};
 
+use entry_blocks::Filed;
 use model::{ContainerSlot, PolicySlot};
 
-// The blocks of the standing containers, put from byte `start` on. Answers where they end.
-fn put_containers(memory: &[u64], bytes: &mut [u8], start: usize) -> usize
-    requires { EntriesFormed memory.now × (start + length (table_blocks container_block (model_in memory.now).containers) ≤ length bytes.old) }
-    ensures { Puts bytes.old start (table_blocks container_block (model_in memory.now).containers) bytes.new result }
+// The blocks of the standing entries of a table, put from byte `start` on. Answers where they end.
+// Kept: the buffer with a position, which the clause of the whole file speaks of.
+fn put_table<S: Filed>(memory: &[u64], bytes: &mut [u8], start: usize) -> usize
+    requires { EntriesFormed memory.now × (start + length (table_blocks (block_by S.either) (S.table memory.now)) ≤ length bytes.old) }
+    ensures { Puts bytes.old start (table_blocks (block_by S.either) (S.table memory.now)) bytes.new result }
 {
     let mut at = start;
-    let mut c = 0;
-    while c < store::CONTAINER_SLOTS {
-        let slot = c;
-        c += 1;
-        if memory[store::CONTAINERS + store::CONTAINER_WORDS * slot] != 0 {
+    for i in 0..S::SLOTS {
+        if memory[S::START + S::WORDS * i] != 0 {
             let end = at + 512;
-            entry_blocks::write_container(memory, ContainerSlot(slot), &mut bytes[at..end]);
-            at = end;
-        }
-    }
-    at
-}
-
-// The blocks of the standing policies, likewise.
-fn put_policies(memory: &[u64], bytes: &mut [u8], start: usize) -> usize
-    requires { EntriesFormed memory.now × (start + length (table_blocks policy_block (model_in memory.now).policies) ≤ length bytes.old) }
-    ensures { Puts bytes.old start (table_blocks policy_block (model_in memory.now).policies) bytes.new result }
-{
-    let mut at = start;
-    let mut q = 0;
-    while q < store::POLICY_SLOTS {
-        let slot = q;
-        q += 1;
-        if memory[store::POLICIES + store::POLICY_WORDS * slot] != 0 {
-            let end = at + 512;
-            entry_blocks::write_policy(memory, PolicySlot(slot), &mut bytes[at..end]);
+            S::at(i).write_entry(memory, &mut bytes[at..end]);
             at = end;
         }
     }
@@ -52,7 +32,9 @@ pub fn file_length(memory: &[u64]) -> usize
     requires { EntriesFormed memory.now }
     ensures { result ≡ length (file_of (model_in memory.now)) }
 {
-    let entries = counts::count_containers(memory) + counts::count_policies(memory);
+    let entries = counts::count_standing::<ContainerSlot>(memory)
+        + counts::count_standing::<PolicySlot>(memory);
+    // Kept: no `From` makes a `usize` of a `u64`.
     512 * (1 + entries as usize)
 }
 
@@ -62,6 +44,6 @@ pub fn put_file(memory: &[u64], bytes: &mut [u8]) -> usize
     ensures { Puts bytes.old 0 (file_of (model_in memory.now)) bytes.new result }
 {
     entry_blocks::write_settings(memory, &mut bytes[0..512]);
-    let behind = put_containers(memory, bytes, 512);
-    put_policies(memory, bytes, behind)
+    let behind = put_table::<ContainerSlot>(memory, bytes, 512);
+    put_table::<PolicySlot>(memory, bytes, behind)
 }

@@ -7,49 +7,37 @@ ghost use Rattle.store.specs.Layout.{Whole};
 ghost use Rattle.formed.specs.Registry.{well_formed};
 ghost use Rattle.formed.specs.Tests.{matrix_ok, sets_ok};
 
+use model::{ContainerSlot, PolicySlot};
+
+// Kept: a container has one row and a policy two, so one function for both would take the number of rows and divide by it.
 fn matrix_ok(memory: &[u64], standing: [u64; 4]) -> bool
     requires { Whole memory.now }
     ensures { result ≡ matrix_ok memory.now (bit_at standing) }
 {
-    let mut a = 0;
-    while a < store::CONTAINER_SLOTS {
-        if !word_tests::row_ok(
-            memory,
-            a,
-            memory[store::CONTAINERS + store::CONTAINER_WORDS * a],
-            standing,
-        ) {
+    for a in 0..store::CONTAINER_SLOTS {
+        let owner = memory[store::CONTAINERS + store::CONTAINER_WORDS * a];
+        if !word_tests::row_ok(memory, a, owner, standing) {
             return false;
         }
-        a += 1;
     }
     true
 }
 
+// Kept: two rows for each policy, where a container has one.
 fn sets_ok(memory: &[u64], standing: [u64; 4]) -> bool
     requires { Whole memory.now }
     ensures { result ≡ sets_ok memory.now (bit_at standing) }
 {
-    let mut q = 0;
-    while q < store::POLICY_SLOTS {
+    for q in 0..store::POLICY_SLOTS {
         let owner = memory[store::POLICIES + store::POLICY_WORDS * q];
-        if !word_tests::row_ok(
-            memory,
-            store::SELECTED_ROWS + store::SET_STEP * q,
-            owner,
-            standing,
-        ) {
+        let selected = store::SELECTED_ROWS + store::SET_STEP * q;
+        if !word_tests::row_ok(memory, selected, owner, standing) {
             return false;
         }
-        if !word_tests::row_ok(
-            memory,
-            store::ALLOWED_ROWS + store::SET_STEP * q,
-            owner,
-            standing,
-        ) {
+        let allowed = store::ALLOWED_ROWS + store::SET_STEP * q;
+        if !word_tests::row_ok(memory, allowed, owner, standing) {
             return false;
         }
-        q += 1;
     }
     true
 }
@@ -64,13 +52,13 @@ pub fn well_formed(memory: &[u64]) -> bool
     if !entry_tests::settings_ok(memory) {
         return false;
     }
-    if !entry_tests::containers_ok(memory) {
+    if !entry_tests::slots_ok::<ContainerSlot>(memory) {
         return false;
     }
-    if !entry_tests::policies_ok(memory) {
+    if !entry_tests::slots_ok::<PolicySlot>(memory) {
         return false;
     }
-    let standing = stored::containers_standing(memory);
+    let standing = stored::standing::<ContainerSlot>(memory);
     if !matrix_ok(memory, standing) {
         return false;
     }

@@ -1,1 +1,2 @@
--- The laws behind the proofs of `part_tests` stand in `formed`.
+-- The laws behind the proofs of `part_tests`.
+pub mod Slices

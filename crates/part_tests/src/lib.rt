@@ -1,55 +1,44 @@
 // The test of a part: a header, its labels and the zeros after them.
 #![tactic(auto)]
 
-ghost use Rattle.std.specs.Prelude.{◌≡◌, ◌+◌, ◌≤◌, length};
+ghost use Rattle.std.specs.Prelude.{◌≡◌, ◌-◌, ◌<◌, length};
 ghost use Rattle.formed.specs.Tests.{labels_between, zeros as all_zero, part_ok};
 
-// The words from `from` on and before `to` are the labels of one list.
-fn labels_ok(memory: &[u64], from: usize, to: usize) -> bool
-    requires { to ≤ length memory.now }
-    ensures { result ≡ labels_between memory.now from to }
+// The words are the labels of one list.
+fn labels_ok(words: &[u64]) -> bool
+    ensures { result ≡ labels_between words.now 0 (length words.now) }
 {
-    let mut last = 0u64;
-    let mut i = from;
-    while i < to {
-        let w = memory[i];
-        if !word_tests::label_ok(last, w) {
+    let mut last = 0;
+    for w in words {
+        if !word_tests::label_ok(last, *w) {
             return false;
         }
-        last = w / 65536;
-        i += 1;
+        last = *w / 65536;
     }
     true
 }
 
-pub fn zeros(memory: &[u64], from: usize, to: usize) -> bool
-    requires { to ≤ length memory.now }
-    ensures { result ≡ all_zero memory.now from to }
+pub fn zeros(words: &[u64]) -> bool
+    ensures { result ≡ all_zero words.now 0 (length words.now) }
 {
-    let mut i = from;
-    while i < to {
-        if memory[i] != 0 {
-            return false;
-        }
-        i += 1;
-    }
-    true
+    words.iter().all(|w| *w == 0)
 }
 
-// A part of at most `limit` labels, whose header is at `at`.
-pub fn part_ok(memory: &[u64], at: usize, limit: usize) -> bool
-    requires { at + 1 + limit ≤ length memory.now }
-    ensures { result ≡ part_ok memory.now at limit }
+// A part with its header first: as many labels as the header says, of one less than its words at most.
+pub fn part_ok(part: &[u64]) -> bool
+    requires { 0 < length part.now }
+    ensures { result ≡ part_ok part.now 0 (length part.now - 1) }
 {
-    let head = memory[at] as usize;
-    if head == 0 {
+    // Kept: std has no `From<u64>` for `usize`, and `try_from` gives an error that never comes.
+    let end = part[0] as usize;
+    if end == 0 {
         return false;
     }
-    if limit + 1 < head {
+    if part.len() < end {
         return false;
     }
-    if !labels_ok(memory, at + 1, at + head) {
+    if !labels_ok(&part[1..end]) {
         return false;
     }
-    zeros(memory, at + head, at + 1 + limit)
+    zeros(&part[end..])
 }

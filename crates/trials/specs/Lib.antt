@@ -1,1 +1,2 @@
--- What the contracts of `trials` cite stands in `entries`.
+-- What the contracts of `trials` cite beside what stands in `entries`.
+pub mod Words

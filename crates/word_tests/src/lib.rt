@@ -7,6 +7,7 @@ ghost use Rattle.store.specs.Layout.{row_count, Whole};
 ghost use Rattle.formed.specs.Tests.{label_ok, row_ok};
 
 // A label's word: its key exceeds the key before it, and key and value are in range.
+#[tactic(auto, unfolding(formed::specs::Tests::label_ok))]
 pub fn label_ok(last: u64, w: u64) -> bool
     ensures { result ≡ label_ok last w }
 {
