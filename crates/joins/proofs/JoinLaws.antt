@@ -59,9 +59,6 @@ pub record Joining (first word : ℕ) (u : ℕ → Bool) (before after : List (L
   pub row : (a : ℕ) → join_if (raised first (bit rest) a) (bits after a) u ≡ join_if (raised first (bit word) a) (bits before a) u
 
 module _ (first word : ℕ) (u : ℕ → Bool) (before : List (List ℕ)) where
-  pub joining-none : word < 2 ^ 64 → Joining first word u before before word
-  joining-none h = record { size = refl; small = h; row = λ a. refl }
-
   module _ {after : List (List ℕ)} {rest : ℕ} (g : Joining first word u before after rest) where
     pub joining-next : (k : ℕ) {next : ℕ} → bit rest k ≡ true → bit next ≡ remove k (bit rest) → next < rest
         → (row : List ℕ) → first + k < length after → bit_at row ≡ join (bits after (first + k)) u → Joining first word u before (set after (first + k) row) next

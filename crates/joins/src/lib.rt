@@ -7,19 +7,17 @@ ghost use Rattle.model.specs.Model.{container_slots};
 ghost use Rattle.sets.specs.Sets.{bits, Empty};
 ghost use Rattle.joins.specs.Joins.{raised, Joined, LinesAre};
 
+use row_members::Bits;
+
 // A set joined to the row of each of some containers, of which `word` has the 64 from `first` on.
 fn join_word(lines: &mut [[u64; 4]; 256], word: u64, first: usize, whom: [u64; 4])
     requires { (length lines.old ≡ container_slots) × (first ≤ 192) }
     ensures { Joined (raised first (bit word)) (bit_at whom) lines.old lines.new }
 {
-    let mut rest = word;
-    while rest > 0 {
-        let k = u64::trailing_zeros(rest) as usize;
-        rest = bitrow::without_lowest(rest);
-        let a = first + k;
-        let row = lines[a];
-        let next = row_sets::either(row, whom);
-        lines[a] = next;
+    for k in Bits(word) {
+        let a = first + usize::from(k);
+        let row = row_sets::either(lines[a], whom);
+        lines[a] = row;
     }
 }
 
@@ -35,6 +33,7 @@ fn join_rows(lines: &mut [[u64; 4]; 256], who: [u64; 4], whom: [u64; 4])
 }
 
 // For each of some containers, the union of the rows of those of the policies whose row of `tests` has it. The lines are empty before.
+// Kept: two arrays and not the struct of both, since each of a policy's two sets is the test of one call and the row of the other.
 pub fn join_all(
     lines: &mut [[u64; 4]; 256],
     policies: [u64; 4],
@@ -45,15 +44,10 @@ pub fn join_all(
     requires { Empty container_slots lines.old }
     ensures { LinesAre 128 (bit_at some) (bit_at policies) (bits tests.now) (bits rows.now) lines.new }
 {
-    let mut p = 0;
-    while p < 128 {
-        let q = p;
-        p += 1;
+    for q in 0..128usize {
         if bitrow::bit_of(policies[q / 64], q) {
-            let test = tests[q];
-            let row = rows[q];
-            let those = row_sets::both(test, some);
-            join_rows(lines, those, row);
+            let those = row_sets::both(tests[q], some);
+            join_rows(lines, those, rows[q]);
         }
     }
 }

@@ -7,28 +7,22 @@ ghost use Rattle.formed.specs.Registry.{EntriesFormed};
 ghost use Rattle.entries.specs.Entries.{PartOfLabels, trial_set};
 ghost use Rattle.label_table.specs.LabelRows.{LabelRows};
 
+use label_table::LabelTable;
+
 // Of the candidates, those that the part at `part` matches: narrowed by the rows of its labels, and tried if a label was not found.
-pub fn matching(
-    memory: &[u64],
-    labels: &[u64; 1024],
-    rows: &[[u64; 4]; 1024],
-    part: usize,
-    candidates: [u64; 4],
-) -> [u64; 4]
-    requires { EntriesFormed memory.now × PartOfLabels memory.now part × LabelRows memory.now labels.now 256 rows.now }
+// Kept: what the part and the table are to the memory is asked here and where it is called: a ghost field cannot name the memory, which
+// is an argument of its own.
+pub fn matching(memory: &[u64], table: &LabelTable, part: usize, candidates: [u64; 4]) -> [u64; 4]
+    requires { EntriesFormed memory.now × PartOfLabels memory.now part × LabelRows memory.now 256 table.now }
     ensures { bit_at result ≡ trial_set memory.now part (bit_at candidates) }
 {
     let mut left = candidates;
     let mut all = true;
-    let end = part + memory[part] as usize;
-    let mut i = part + 1;
-    while i < end {
-        let label = memory[i];
-        i += 1;
-        let h = label_table::place(labels, label);
-        if labels[h] == label {
-            let row = rows[h];
-            let next = row_sets::both(left, row);
+    for word in entries::labels_of(memory, part) {
+        let label = *word;
+        let h = label_table::place(&table.labels, label);
+        if table.labels[h] == label {
+            let next = row_sets::both(left, table.rows[h]);
             left = next;
         } else {
             all = false;

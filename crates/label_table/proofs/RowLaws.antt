@@ -1,5 +1,5 @@
 -- Laws of the label rows: rows marked container by container, candidates narrowed label by label.
-use mathlib.Core.Path.{◌≡◌, refl, sym, ap, ◌∙◌, fun_ext}
+use mathlib.Core.Path.{◌≡◌, refl, sym, ap, ◌∙◌, subst, fun_ext}
 use mathlib.Core.Bool.{Bool, true, false, ◌&&◌, cond, and-true, and-false, and_assoc, true≢false}
 use mathlib.Core.List.{List, []}
 use Prim.Native.Nat.{ℕ, ◌+◌, ◌/◌, ◌%◌, ◌≤◌, ◌<◌}
@@ -19,6 +19,7 @@ use Rattle.store.specs.Layout.{container_start, word_at}
 use Rattle.formed.specs.Words.{label_in, part_in}
 use Rattle.entries.specs.Entries.{matching_from, matching, trial_set}
 use Rattle.entries.proofs.PartLabels.{labels_from, carries-part, carries-hit, carries-skip, carries-done, matches-part, matches-fail, matches-skip, matches-done}
+use Rattle.label_table.specs.declared.LabelTable.{LabelTable}
 use Rattle.label_table.specs.LabelTable.{places, table_place, Placed}
 use Rattle.label_table.specs.Rows.{bits, Shaped, Empty}
 use Rattle.label_table.specs.LabelRows.{put, Marked, carriers, LabelRows}
@@ -108,23 +109,26 @@ module _ (m labels : List ℕ) (c part : ℕ) where
 
 -- ---- the rows of all labels, container by container
 
-module _ (m labels : List ℕ) where
-  pub label-rows-none : {rows : List (List ℕ)} → Empty places rows → LabelRows m labels 0 rows
-  label-rows-none e = record { shape = e.shape; row = λ v p. e.row (table_place labels v) ∙ sym (ap (meet (carriers m v)) under-zero ∙ meet-nothing (carriers m v)) }
+module _ (m : List ℕ) where
+  pub label-rows-none : {t : LabelTable} → Empty places t.rows → LabelRows m 0 t
+  label-rows-none {t} e = record { shape = e.shape; row = λ v p. e.row (table_place t.labels v) ∙ sym (ap (meet (carriers m v)) under-zero ∙ meet-nothing (carriers m v)) }
 
-  pub rows_next : {rows next : List (List ℕ)} {c : ℕ} → LabelRows m labels c rows
-      → Marked labels c (λ v. carries (part_in m (container_start c)) (label_in v)) rows next → LabelRows m labels (c + 1) next
+  pub rows_next : {t next : LabelTable} {c : ℕ} → LabelRows m c t → next.labels ≡ t.labels
+      → Marked t.labels c (λ v. carries (part_in m (container_start c)) (label_in v)) t.rows next.rows → LabelRows m (c + 1) next
   unfolding carriers
-  rows_next {rows} {next} {c} g k = record { shape = k.shape; row = λ v p. k.row v p ∙ ap (put c (carriers m v c)) (g.row v p) ∙ go v (carriers m v c) refl }
+  rows_next {t} {next} {c} g e k = record { shape = k.shape; row = subst Row (sym e) (λ v p. k.row v p ∙ ap (put c (carriers m v c)) (g.row v p) ∙ go v (carriers m v c) refl) }
     where
+      Row : List ℕ → Type 0
+      Row labels = (v : ℕ) → Placed labels v → bits next.rows (table_place labels v) ≡ meet (carriers m v) (under (c + 1))
+
       go : (v : ℕ) (t : Bool) → carriers m v c ≡ t → put c (carriers m v c) (meet (carriers m v) (under c)) ≡ meet (carriers m v) (under (c + 1))
       go v true e = put-yes c (meet (carriers m v) (under c)) e ∙ meet-take (carriers m v) c e
       go v false e = put-no c (meet (carriers m v) (under c)) e ∙ meet-skip (carriers m v) c e
 
 -- the row of a label that is at its place
-pub label-row : {m labels : List ℕ} {n label h : ℕ} {rows : List (List ℕ)} → LabelRows m labels n rows → h ≡ table_place labels label → get_or labels h 0 ≡ label
-    → bits rows h ≡ meet (carriers m label) (under n)
-label-row {m} {labels} {n} {label} {h} {rows} g e f = ap (bits rows) e ∙ g.row label (ap (λ k. get_or labels k 0) (sym e) ∙ f)
+pub label-row : {m : List ℕ} {n label h : ℕ} {t : LabelTable} → LabelRows m n t → h ≡ table_place t.labels label → get_or t.labels h 0 ≡ label
+    → bits t.rows h ≡ meet (carriers m label) (under n)
+label-row {m} {n} {label} {h} {t} g e f = ap (bits t.rows) e ∙ g.row label (ap (λ k. get_or t.labels k 0) (sym e) ∙ f)
 
 -- ---- candidates narrowed
 

@@ -27,10 +27,12 @@ module _ (labels : List ℕ) (v : ℕ) where
   probe-here zero h l e = absurd (omega arith)
   probe-here (suc n) h l e = ap (λ t. cond t h (probe labels v n ((h + 1) % places))) e
 
-  pub probe-on : (n h : ℕ) → 0 < n → (eqb (get_or labels h 0) v || eqb (get_or labels h 0) 0) ≡ false → probe labels v n h ≡ probe labels v (n - 1) ((h + 1) % places)
+  -- k of n probes are done
+  pub probe-on : {n : ℕ} (k h : ℕ) → k < n → (eqb (get_or labels h 0) v || eqb (get_or labels h 0) 0) ≡ false → probe labels v (n - k) h ≡ probe labels v (n - (k + 1)) ((h + 1) % places)
   unfolding probe
-  probe-on zero h l e = absurd (omega arith)
-  probe-on (suc n) h l e = let k : suc n - 1 ≡ n = omega arith in ap (λ t. cond t h (probe labels v n ((h + 1) % places))) e ∙ ap (λ i. probe labels v i ((h + 1) % places)) (sym k)
+  probe-on {n} k h l e =
+      let i : n - k ≡ suc (n - (k + 1)) = omega arith in
+      ap (λ j. probe labels v j h) i ∙ ap (λ t. cond t h (probe labels v (n - (k + 1)) ((h + 1) % places))) e
 
 -- ---- labels entered
 

@@ -4,6 +4,7 @@ use Rattle.bitrow.specs.Set.{meet, under, insert}
 use Rattle.model.specs.Rules.{carries}
 use Rattle.store.specs.Layout.{container_start}
 use Rattle.formed.specs.Words.{label_in, part_in}
+use Rattle.label_table.specs.declared.LabelTable.{LabelTable}
 use Rattle.label_table.specs.LabelTable.{places, table_place, Placed}
 use Rattle.label_table.specs.Rows.{bits, Shaped}
 
@@ -21,6 +22,6 @@ unfoldable pub carriers : List ℕ → ℕ → ℕ → Bool
 carriers m v c = carries (part_in m (container_start c)) (label_in v)
 
 -- the row of each placed label has those of its carriers that are below n
-pub record LabelRows (m labels : List ℕ) (n : ℕ) (rows : List (List ℕ)) : Type 0 where
-  pub shape : Shaped places rows
-  pub row : (v : ℕ) → Placed labels v → bits rows (table_place labels v) ≡ meet (carriers m v) (under n)
+pub record LabelRows (m : List ℕ) (n : ℕ) (t : LabelTable) : Type 0 where
+  pub shape : Shaped places t.rows
+  pub row : (v : ℕ) → Placed t.labels v → bits t.rows (table_place t.labels v) ≡ meet (carriers m v) (under n)

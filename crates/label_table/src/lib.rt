@@ -7,8 +7,19 @@ ghost use Rattle.formed.specs.Registry.{EntriesFormed};
 ghost use Rattle.entries.specs.Entries.{PartWithin};
 ghost use Rattle.label_table.specs.LabelTable.{places, first_place, table_place, entered, in_turn, part_entered, policy_entered};
 
+// At each place a label, or 0, and the row of the containers that carry it.
+// Kept: two arrays, since a place is found and a label entered by the labels alone, and a set's rows are an array of rows
+// (docs/DECISIONS.md 24).
+#[derive(Drop)]
+pub struct LabelTable {
+    pub labels: [u64; 1024],
+    pub rows: [[u64; 4]; 1024],
+}
+
 // Where probing for a label begins: the top ten of the low 32 bits of its product with 2^32 divided by the golden ratio. Any number below
 // 1024 would do: see above.
+// Kept: the cast, since a label is a word of memory and std has no `From` from u64 to usize; `try_from` adds an error that cannot be.
+#[tactic(auto, unfolding(crate::specs::LabelTable::first_place))]
 fn first_place(label: u64) -> usize
     ensures { (result ≡ first_place label) × (result < places) }
 {
@@ -20,9 +31,7 @@ pub fn place(labels: &[u64; 1024], label: u64) -> usize
     ensures { (result ≡ table_place labels.now label) × (result < places) }
 {
     let mut h = first_place(label);
-    let mut k = 8u64;
-    while k > 0 {
-        k -= 1;
+    for _probe in 0..8usize {
         let there = labels[h];
         if (there == label) | (there == 0) {
             return h;
@@ -44,15 +53,13 @@ fn enter(labels: &mut [u64; 1024], label: u64)
 }
 
 // The labels of the part whose header is at `part`.
+// Kept: the memory with a position, which the definition of what is entered speaks of.
 fn enter_part(labels: &mut [u64; 1024], memory: &[u64], part: usize)
     requires { PartWithin memory.now part }
     ensures { labels.new ≡ part_entered memory.now labels.old part }
 {
-    let end = part + memory[part] as usize;
-    let mut i = part + 1;
-    while i < end {
-        enter(labels, memory[i]);
-        i += 1;
+    for label in entries::labels_of(memory, part) {
+        enter(labels, *label);
     }
 }
 
@@ -61,11 +68,9 @@ pub fn enter_all(labels: &mut [u64; 1024], memory: &[u64])
     requires { EntriesFormed memory.now }
     ensures { labels.new ≡ in_turn (policy_entered memory.now) 0 128 labels.old }
 {
-    let mut q = 0;
-    while q < store::POLICY_SLOTS {
+    for q in 0..store::POLICY_SLOTS {
         let at = store::POLICIES + store::POLICY_WORDS * q;
         enter_part(labels, memory, at + store::SELECT);
         enter_part(labels, memory, at + store::ALLOW);
-        q += 1;
     }
 }

@@ -7,79 +7,95 @@ ghost use Rattle.model.specs.Table.{stands};
 ghost use Rattle.model.specs.Model.{container_slots};
 ghost use Rattle.formed.specs.Registry.{model_in, EntriesFormed};
 ghost use Rattle.sets.specs.Sets.{bits, Empty, KnownSets};
-ghost use Rattle.matrix_rows.specs.Rows.{meet_if, Gathers, RowFrom};
+ghost use Rattle.matrix_rows.specs.Rows.{meet_if, Ungathered, Gathers, RowFrom};
 
-// What rows of the matrix are read from, beside what was gathered for each container: the standing containers, those that an egress
-// policy selects, and those that an ingress policy selects.
-#[derive(Clone, Copy)]
+use block::Direction;
+use sets::PolicySets;
+
+// What rows of the matrix are read from: each policy's two sets, the standing containers, those that an egress policy selects, those
+// that an ingress policy selects, and for each container in `outs` what the egress policies that select it allow, in `backs` what the
+// ingress policies that allow it select.
+// Kept: it is lent and never passed by value, since it has 24 KiB.
+#[derive(Drop)]
 pub struct Gathered {
+    pub sets: PolicySets,
     pub standing: [u64; 4],
     pub bound: [u64; 4],
     pub chosen: [u64; 4],
+    pub outs: [[u64; 4]; 256],
+    pub backs: [[u64; 4]; 256],
 }
 
-// What the rows of some containers are read from. Each policy's two sets come into `selected` and `allowed`, where those of the policy
-// `known` (128 where there is none) are already. Into the row of each of these containers comes, in `outs`, what the egress policies
-// that select it allow, and in `backs` what the ingress policies that allow it select; both are empty before.
-pub fn gather(
-    memory: &[u64],
-    standing: [u64; 4],
-    known: usize,
-    some: [u64; 4],
-    selected: &mut [[u64; 4]; 128],
-    allowed: &mut [[u64; 4]; 128],
-    outs: &mut [[u64; 4]; 256],
-    backs: &mut [[u64; 4]; 256],
-) -> Gathered
-    requires entries_formed { EntriesFormed memory.now × (bit_at standing ≡ stands (model_in memory.now).containers) }
-    requires known_sets { KnownSets (model_in memory.now) known selected.old allowed.old }
-    requires empty { Empty container_slots outs.old × Empty container_slots backs.old }
-    ensures { Gathers (model_in memory.now) (bit_at some) result selected.new allowed.new outs.new backs.new }
+// Nothing gathered yet for these standing containers.
+pub fn ungathered(standing: [u64; 4]) -> Gathered
+    ensures { Ungathered standing result }
 {
-    all_sets::fill_sets(memory, standing, known, selected, allowed);
-    let sides = reach::sides_of(memory, standing, selected, 2);
-    let out = sides.out;
-    let back = sides.back;
-    joins::join_all(outs, out, selected, allowed, some);
-    joins::join_all(backs, back, allowed, selected, some);
-    let bound = rules::union_of(out, selected);
-    let chosen = sides.chosen;
     Gathered {
+        sets: PolicySets {
+            selected: [[0; 4]; 128],
+            allowed: [[0; 4]; 128],
+        },
         standing,
-        bound,
-        chosen,
+        bound: [0; 4],
+        chosen: [0; 4],
+        outs: [[0; 4]; 256],
+        backs: [[0; 4]; 256],
     }
 }
 
-// Those of `among` that a may have to do with: all, or where a is bound by a policy its row.
-fn outward_from(a: usize, bound: [u64; 4], outs: &[[u64; 4]; 256], among: [u64; 4]) -> [u64; 4]
-    requires { a < 256 }
-    ensures { bit_at result ≡ meet_if (bit_at bound a) (bit_at among) (bits outs.now a) }
+// What the rows of some containers are read from is gathered, where nothing is yet but the sets of the policy `known`, if any.
+pub fn gather(memory: &[u64], known: Option<usize>, some: [u64; 4], gathered: &mut Gathered)
+    requires entries_formed { EntriesFormed memory.now × (bit_at gathered.old.standing ≡ stands (model_in memory.now).containers) }
+    requires known_sets { KnownSets (model_in memory.now) known gathered.old.sets }
+    requires empty { Empty container_slots gathered.old.outs × Empty container_slots gathered.old.backs }
+    ensures { Gathers (model_in memory.now) (bit_at some) gathered.new }
 {
-    if row_sets::has(bound, a) {
-        let whom = outs[a];
-        return row_sets::both(among, whom);
+    let standing = gathered.standing;
+    all_sets::fill_sets(memory, standing, known, &mut gathered.sets);
+    let sets = &gathered.sets;
+    let sides = reach::sides_of(memory, standing, &sets.selected, Direction::Egress);
+    joins::join_all(
+        &mut gathered.outs,
+        sides.out,
+        &sets.selected,
+        &sets.allowed,
+        some,
+    );
+    joins::join_all(
+        &mut gathered.backs,
+        sides.back,
+        &sets.allowed,
+        &sets.selected,
+        some,
+    );
+    let bound = rules::union_of(sides.out, &sets.selected);
+    let chosen = sides.chosen;
+    gathered.bound = bound;
+    gathered.chosen = chosen;
+}
+
+// Those of the standing containers that a may have to do with: all, or where a is bound by a policy its row.
+fn outward_from(a: usize, gathered: &Gathered) -> [u64; 4]
+    requires { a < 256 }
+    ensures { bit_at result ≡ meet_if (bit_at gathered.now.bound a) (bit_at gathered.now.standing) (bits gathered.now.outs a) }
+{
+    if row_sets::has(gathered.bound, a) {
+        return row_sets::both(gathered.standing, gathered.outs[a]);
     }
-    among
+    gathered.standing
 }
 
 // Row a of the matrix by the rules, where a is one of the containers that were gathered for, or a free slot.
-pub fn row_from(
-    a: usize,
-    gathered: Gathered,
-    outs: &[[u64; 4]; 256],
-    backs: &[[u64; 4]; 256],
-) -> [u64; 4]
+pub fn row_from(a: usize, gathered: &Gathered) -> [u64; 4]
     requires { a < 256 }
-    ensures { RowFrom gathered outs.now backs.now a result }
+    ensures { RowFrom gathered.now a result }
 {
-    let standing = gathered.standing;
-    if !row_sets::has(standing, a) {
+    if !row_sets::has(gathered.standing, a) {
         return row_sets::none();
     }
-    let bound = gathered.bound;
-    let there = outward_from(a, bound, outs, standing);
-    let chosen = gathered.chosen;
-    let who = backs[a];
-    row_sets::either(row_sets::except(there, chosen), row_sets::both(there, who))
+    let there = outward_from(a, gathered);
+    row_sets::either(
+        row_sets::except(there, gathered.chosen),
+        row_sets::both(there, gathered.backs[a]),
+    )
 }

@@ -10,11 +10,14 @@ use lib.ListN.{length}
 use Rattle.bitrow.specs.Set.{some}
 use Rattle.bitrow.proofs.Sets.{point}
 use Rattle.bitrow.proofs.Tests.{some-cong}
-use Rattle.block.specs.Entry.{Container, Direction, ingress, egress}
+use Rattle.block.specs.declared.Direction.{Direction}
+use Rattle.block.specs.declared.Direction.TheVariants.{Ingress as ingress, Egress as egress}
+use Rattle.block.specs.Entry.{Container}
 use Rattle.model.specs.Table.{Table, any, on, at, stands, standing, standing_from}
 use Rattle.model.specs.Rules.{same_direction, selects, allows, some_selects, some_allows}
 use Rattle.model.specs.Rules as rules
 use Rattle.model.specs.Model.{policy_slots, Model, matrix_bit, selected_bit, allowed_bit}
+use Rattle.sets.specs.declared.PolicySets.{PolicySets}
 use Rattle.sets.specs.Sets.{bits, RowsAre, SetsOf}
 use Rattle.rules.specs.Lets.{having, union, sets_let, line}
 use Rattle.reach.specs.Sides.{direction_set, opposite}
@@ -109,9 +112,9 @@ module _ (m : Model) {n : ℕ} {sel alw : List (List ℕ)}
       ap₂ (λ (x y : Bool). s a && (s b && (x && y))) (lets-cong n w es.row ea.row a b) (lets-cong n v es.row ea.row b a)
       ∙ rw (f, g, h, ← size)
 
-module _ (m : Model) {sel alw : List (List ℕ)} (size : length m.policies ≡ policy_slots) (sets : SetsOf m sel alw) {s w v : ℕ → Bool} (f : s ≡ stands m.containers) where
-  pub row-law : w ≡ direction_set m egress → v ≡ direction_set m ingress → (a : ℕ) → line policy_slots s w v (bits sel) (bits alw) a ≡ matrix_bit m a
+module _ (m : Model) {held : PolicySets} (size : length m.policies ≡ policy_slots) (sets : SetsOf m held) {s w v : ℕ → Bool} (f : s ≡ stands m.containers) where
+  pub row-law : w ≡ direction_set m egress → v ≡ direction_set m ingress → (a : ℕ) → line policy_slots s w v (bits held.selected) (bits held.allowed) a ≡ matrix_bit m a
   row-law g h a = fun_ext (λ b. sets-model m size sets.selected sets.allowed egress f g h a b ∙ row-model m a b (at m.containers a) (at m.containers b) refl refl)
 
-  pub column-law : w ≡ direction_set m ingress → v ≡ direction_set m egress → (b : ℕ) → line policy_slots s w v (bits sel) (bits alw) b ≡ (λ a. matrix_bit m a b)
+  pub column-law : w ≡ direction_set m ingress → v ≡ direction_set m egress → (b : ℕ) → line policy_slots s w v (bits held.selected) (bits held.allowed) b ≡ (λ a. matrix_bit m a b)
   column-law g h b = fun_ext (λ a. sets-model m size sets.selected sets.allowed ingress f g h b a ∙ column-model m a b (at m.containers b) (at m.containers a) refl refl)

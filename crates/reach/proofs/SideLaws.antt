@@ -3,7 +3,7 @@ use mathlib.Core.Path.{◌≡◌, refl, sym, ap, ◌∙◌, fun_ext}
 use mathlib.Core.Bool.{Bool, false, cond}
 use mathlib.Core.List.{List, [], ◌∷◌}
 use mathlib.Core.Option.{none, some}
-use Prim.Native.Nat.{ℕ, zero, suc, ◌+◌, ◌-◌, ◌*◌, ◌≤◌, ◌<◌}
+use Prim.Native.Nat.{ℕ, zero, suc, ◌+◌, ◌*◌, ◌≤◌, ◌<◌}
 use native.Mathlib.Decide.{dec_lt}
 use native.Mathlib.Omega.{arith}
 use lib.Dec.{eqb}
@@ -11,8 +11,10 @@ use lib.ListN.{length}
 use Rattle.bitrow.specs.Bit.{bit, bit_at}
 use Rattle.bitrow.specs.Set.{under, meet}
 use Rattle.bitrow.proofs.Sets.{point}
-use Rattle.block.specs.Entry.{Direction, ingress, egress}
+use Rattle.block.specs.declared.Direction.{Direction}
+use Rattle.block.specs.declared.Direction.TheVariants.{Ingress as ingress, Egress as egress}
 use Rattle.block.specs.Reader.{direction_of}
+use Rattle.block.specs.Written.{direction_number}
 use Rattle.model.specs.Table.{on, at}
 use Rattle.model.specs.Rules.{same_direction}
 use Rattle.model.specs.Model.{policy_slots, Model}
@@ -32,58 +34,51 @@ use Rattle.reach.specs.Sides.{SidesOf, Exchanged, direction_set, opposite}
 -- ---- the policies of a direction
 
 -- a direction word among 0, 1 and 2
-same-direction-word : (d w : ℕ) → 1 ≤ d → d ≤ 2 → w ≤ 2 → eqb w d ≡ cond (eqb w 0) false (same_direction (direction_of d) (direction_of w))
+same-direction-word : (d : Direction) (w : ℕ) → w ≤ 2 → eqb w (direction_number d) ≡ cond (eqb w 0) false (same_direction d (direction_of w))
 unfolding direction_of same_direction
-same-direction-word zero w a b c = absurd (omega arith)
-same-direction-word (suc zero) zero a b c = refl
-same-direction-word (suc zero) (suc zero) a b c = refl
-same-direction-word (suc zero) (suc (suc zero)) a b c = refl
-same-direction-word (suc zero) (suc (suc (suc w))) a b c = absurd (omega arith)
-same-direction-word (suc (suc zero)) zero a b c = refl
-same-direction-word (suc (suc zero)) (suc zero) a b c = refl
-same-direction-word (suc (suc zero)) (suc (suc zero)) a b c = refl
-same-direction-word (suc (suc zero)) (suc (suc (suc w))) a b c = absurd (omega arith)
-same-direction-word (suc (suc (suc d))) w a b c = absurd (omega arith)
+same-direction-word ingress zero h = refl
+same-direction-word ingress (suc zero) h = refl
+same-direction-word ingress (suc (suc zero)) h = refl
+same-direction-word ingress (suc (suc (suc w))) h = absurd (omega arith)
+same-direction-word egress zero h = refl
+same-direction-word egress (suc zero) h = refl
+same-direction-word egress (suc (suc zero)) h = refl
+same-direction-word egress (suc (suc (suc w))) h = absurd (omega arith)
 
-module _ (m : List ℕ) (ok : EntriesFormed m) (d : ℕ) (low : 1 ≤ d) (high : d ≤ 2) where
+module _ (m : List ℕ) (ok : EntriesFormed m) (d : Direction) where
   abbrev has_direction : ℕ → Bool
-  has_direction w = eqb w d
+  has_direction w = eqb w (direction_number d)
 
   abbrev those : ℕ → Bool
   those = passing m policies_start policy_words has_direction
 
-  direction-at : (q : ℕ) → q < policy_slots → those q ≡ direction_set (model_in m) (direction_of d) q
+  direction-at : (q : ℕ) → q < policy_slots → those q ≡ direction_set (model_in m) d q
   unfolding passing direction_set policy_in policy_at
   direction-at q h =
-      same-direction-word d (word_at m (policy_start q)) low high (formed-direction m ok q h)
-      ∙ by_eqb (λ t. cond t false (same_direction (direction_of d) (direction_of (word_at m (policy_start q))))
-      ≡ on (λ p. same_direction (direction_of d) p.direction) (cond t none (some (policy_at m q)))) (word_at m (policy_start q)) 0 (λ e. refl) (λ e. refl)
-      ∙ sym (ap (on (λ p. same_direction (direction_of d) p.direction)) (policy-slot m q h))
+      same-direction-word d (word_at m (policy_start q)) (formed-direction m ok q h)
+      ∙ by_eqb (λ t. cond t false (same_direction d (direction_of (word_at m (policy_start q))))
+      ≡ on (λ p. same_direction d p.direction) (cond t none (some (policy_at m q)))) (word_at m (policy_start q)) 0 (λ e. refl) (λ e. refl)
+      ∙ sym (ap (on (λ p. same_direction d p.direction)) (policy-slot m q h))
 
-  direction-past : (q : ℕ) → policy_slots ≤ q → direction_set (model_in m) (direction_of d) q ≡ false
+  direction-past : (q : ℕ) → policy_slots ≤ q → direction_set (model_in m) d q ≡ false
   unfolding direction_set
-  direction-past q h = ap (on (λ p. same_direction (direction_of d) p.direction)) (policy-beyond m q h)
+  direction-past q h = ap (on (λ p. same_direction d p.direction)) (policy-beyond m q h)
 
-  word-at : (at w : ℕ) → bit w ≡ meet (firsts m at policy_words d) (under 64) → (i : ℕ) → i < 64 → bit w i ≡ has_direction (word_at m (at + policy_words * i))
+  word-at : (at w : ℕ) → bit w ≡ meet (firsts m at policy_words (direction_number d)) (under 64) → (i : ℕ) → i < 64
+      → bit w i ≡ has_direction (word_at m (at + policy_words * i))
   unfolding firsts
-  word-at at w e i h = point e i ∙ meet-in (firsts m at policy_words d) 64 i h
+  word-at at w e i h = point e i ∙ meet-in (firsts m at policy_words (direction_number d)) 64 i h
 
-  pub direction-row : (a b : ℕ) → bit a ≡ meet (firsts m policies_start policy_words d) (under 64) → bit b ≡ meet (firsts m (policies_start + 64 * policy_words) policy_words d) (under 64)
-      → bit_at (a ∷ b ∷ 0 ∷ 0 ∷ []) ≡ direction_set (model_in m) (direction_of d)
+  pub direction-row : (a b : ℕ) → bit a ≡ meet (firsts m policies_start policy_words (direction_number d)) (under 64)
+      → bit b ≡ meet (firsts m (policies_start + 64 * policy_words) policy_words (direction_number d)) (under 64)
+      → bit_at (a ∷ b ∷ 0 ∷ 0 ∷ []) ≡ direction_set (model_in m) d
   direction-row a b e f =
       two-words those a b (slots-word m policies_start policy_words has_direction 0 a (word-at policies_start a e)) (slots-word m policies_start policy_words has_direction 64 b (word-at (policies_start + 64 * policy_words) b f))
       ∙ fun_ext (λ q. go q (dec_lt q policy_slots))
     where
-      go : (q : ℕ) → Dec (q < policy_slots) → meet those (under policy_slots) q ≡ direction_set (model_in m) (direction_of d) q
+      go : (q : ℕ) → Dec (q < policy_slots) → meet those (under policy_slots) q ≡ direction_set (model_in m) d q
       go q (yes l) = meet-in those policy_slots q l ∙ direction-at q l
       go q (no l) = meet-out those policy_slots q (omega arith) ∙ sym (direction-past q (omega arith))
-
-pub other-direction : (d : ℕ) → 1 ≤ d → d ≤ 2 → direction_of (3 - d) ≡ opposite (direction_of d)
-unfolding direction_of
-other-direction zero a b = absurd (omega arith)
-other-direction (suc zero) a b = refl
-other-direction (suc (suc zero)) a b = refl
-other-direction (suc (suc (suc d))) a b = absurd (omega arith)
 
 -- the sides of a row and of a column
 pub sides-exchanged : {m : Model} {d : Direction} {sel : List (List ℕ)} {s t : Sides} → SidesOf m d sel s → Exchanged s sel t → SidesOf m (opposite d) sel t

@@ -1,7 +1,8 @@
 -- What a row and a column of a model's matrix are worked out from.
 use Rattle.std.specs.Prelude.{◌≡◌, Bool, List, ℕ}
 use Rattle.bitrow.specs.Bit.{bit_at}
-use Rattle.block.specs.Entry.{Direction, ingress, egress}
+use Rattle.block.specs.declared.Direction.{Direction}
+use Rattle.block.specs.declared.Direction.TheVariants.{Ingress as ingress, Egress as egress}
 use Rattle.model.specs.Table.{on, at, stands}
 use Rattle.model.specs.Rules.{same_direction}
 use Rattle.model.specs.Model.{policy_slots, Model}

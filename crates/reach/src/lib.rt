@@ -1,49 +1,54 @@
 // What a row and a column of the matrix are worked out from by the entries of a memory, and a container's row and column.
 #![tactic(auto)]
 
-ghost use Rattle.std.specs.Prelude.{◌≡◌, ◌≤◌, ◌<◌};
+ghost use Rattle.std.specs.Prelude.{◌≡◌, ◌<◌};
 ghost use Rattle.bitrow.specs.Bit.{bit_at};
-ghost use Rattle.block.specs.Reader.{direction_of};
 ghost use Rattle.model.specs.Table.{stands};
 ghost use Rattle.model.specs.Model.{matrix_bit};
 ghost use Rattle.formed.specs.Registry.{model_in, EntriesFormed};
 ghost use Rattle.sets.specs.Sets.{SetsOf};
-ghost use Rattle.reach.specs.Sides.{direction_set, SidesOf, Exchanged};
+ghost use Rattle.reach.specs.Sides.{direction_set, opposite, SidesOf, Exchanged};
 
+use block::Direction;
 use rules::Sides;
+use sets::PolicySets;
 
-// The standing policies of a direction, 1 ingress, 2 egress.
-pub fn of_direction(memory: &[u64], direction: u64) -> [u64; 4]
-    requires { EntriesFormed memory.now × (1 ≤ direction) × (direction ≤ 2) }
-    ensures { bit_at result ≡ direction_set (model_in memory.now) (direction_of direction) }
+// The standing policies of a direction.
+pub fn of_direction(memory: &[u64], direction: Direction) -> [u64; 4]
+    requires { EntriesFormed memory.now }
+    ensures { bit_at result ≡ direction_set (model_in memory.now) direction }
 {
+    let number = u64::from(direction);
     [
-        stored::slots_with(memory, store::POLICIES, store::POLICY_WORDS, direction),
-        stored::slots_with(
-            memory,
-            store::POLICIES + 64 * store::POLICY_WORDS,
-            store::POLICY_WORDS,
-            direction,
-        ),
+        stored::slots_with(memory, store::POLICIES, store::POLICY_WORDS, number),
+        stored::slots_with(memory, store::POLICIES_64, store::POLICY_WORDS, number),
         0,
         0,
     ]
 }
 
-// What a row of the matrix is worked out from for direction 2, egress, and a column for direction 1, ingress, where `selected` has
-// what each policy selects.
+// The other direction.
+fn opposite(direction: Direction) -> Direction
+    ensures { result ≡ opposite direction }
+{
+    match direction {
+        Direction::Ingress => Direction::Egress,
+        Direction::Egress => Direction::Ingress,
+    }
+}
+
+// What a row of the matrix is worked out from for egress, and a column for ingress, where `selected` has what each policy selects.
 pub fn sides_of(
     memory: &[u64],
     standing: [u64; 4],
     selected: &[[u64; 4]; 128],
-    direction: u64,
+    direction: Direction,
 ) -> Sides
-    requires entries_formed { EntriesFormed memory.now × (bit_at standing ≡ stands (model_in memory.now).containers) }
-    requires le_direction { (1 ≤ direction) × (direction ≤ 2) }
-    ensures { SidesOf (model_in memory.now) (direction_of direction) selected.now result }
+    requires { EntriesFormed memory.now × (bit_at standing ≡ stands (model_in memory.now).containers) }
+    ensures { SidesOf (model_in memory.now) direction selected.now result }
 {
     let out = of_direction(memory, direction);
-    let back = of_direction(memory, 3 - direction);
+    let back = of_direction(memory, opposite(direction));
     let chosen = rules::union_of(back, selected);
     Sides {
         standing,
@@ -77,20 +82,14 @@ pub struct Cross {
 }
 
 // Both by the rules, from each policy's two sets.
-pub fn cross_of(
-    memory: &[u64],
-    standing: [u64; 4],
-    selected: &[[u64; 4]; 128],
-    allowed: &[[u64; 4]; 128],
-    c: usize,
-) -> Cross
+pub fn cross_of(memory: &[u64], standing: [u64; 4], sets: &PolicySets, c: usize) -> Cross
     requires entries_formed { EntriesFormed memory.now × (bit_at standing ≡ stands (model_in memory.now).containers) }
-    requires c_bound { (c < 256) × SetsOf (model_in memory.now) selected.now allowed.now }
+    requires c_bound { (c < 256) × SetsOf (model_in memory.now) sets.now }
     ensures { (bit_at result.row ≡ matrix_bit (model_in memory.now) c) × (bit_at result.column ≡ (λ a. matrix_bit (model_in memory.now) a c)) }
 {
-    let across = sides_of(memory, standing, selected, 2);
-    let row = rules::row_by_rules(c, across, selected, allowed);
-    let down = exchanged(across, selected);
-    let column = rules::row_by_rules(c, down, selected, allowed);
+    let across = sides_of(memory, standing, &sets.selected, Direction::Egress);
+    let row = rules::row_by_rules(c, across, sets);
+    let down = exchanged(across, &sets.selected);
+    let column = rules::row_by_rules(c, down, sets);
     Cross { row, column }
 }

@@ -2,12 +2,12 @@
 use mathlib.Core.Path.{◌≡◌, refl, sym, ap, ◌∙◌, fun_ext}
 use mathlib.Core.Bool.{Bool, true, false, not, ◌&&◌, ◌||◌, and-true, and_assoc, and_comm, and-or_distrib_left}
 use mathlib.Core.List.{List}
-use Prim.Native.Nat.{ℕ, ◌+◌, ◌≤◌, ◌<◌}
-use native.Mathlib.Omega.{arith}
+use Prim.Native.Nat.{ℕ, ◌+◌}
+use Rattle.std.specs.Prelude.{Option, Some, None, unwrap_or}
 use Rattle.bitrow.specs.Bit.{bit_at}
 use Rattle.bitrow.specs.Set.{nothing, meet, join, less, some}
 use Rattle.bitrow.proofs.Tests.{some-zero, some_next, some-skip, some-take, some-cong}
-use Rattle.rules.specs.Lets.{having, union, Picks, sets_let, sets_let_by, line}
+use Rattle.rules.specs.Lets.{having, union, Picks, picked, sets_let, sets_let_by, line}
 
 -- ---- a union, policy by policy
 
@@ -23,46 +23,28 @@ pub union-take : (t : ℕ → Bool) (s : ℕ → ℕ → Bool) (n : ℕ) → t n
 unfolding union having join
 union-take t s n e = fun_ext (λ j. some_next (having t s j) n ∙ rw e)
 
--- the sets of those below p are gathered into r
-pub record Uniting (n : ℕ) (t : ℕ → Bool) (s : ℕ → ℕ → Bool) (r : List ℕ) (p : ℕ) : Type 0 where
-  pub most : p ≤ n
-  pub joined : bit_at r ≡ union t s p
+-- ---- what is picked, policy by policy
 
-module _ {n : ℕ} {t : ℕ → Bool} {s : ℕ → ℕ → Bool} {r : List ℕ} where
-  pub uniting-none : bit_at r ≡ nothing → Uniting n t s r 0
-  uniting-none e = record { most = omega arith; joined = e ∙ sym (union-none t s) }
+pub picked-or : (o : Option (List ℕ)) (d r : List ℕ) → bit_at d ≡ nothing → r ≡ unwrap_or o d → bit_at r ≡ picked o
+picked-or None d r e f = ap bit_at f ∙ e
+picked-or (Some x) d r e f = ap bit_at f
 
-  module _ {p : ℕ} (g : Uniting n t s r p) (h : p < n) where
-    pub uniting-skip : t p ≡ false → Uniting n t s r (p + 1)
-    uniting-skip e = record { most = omega arith; joined = g.joined ∙ sym (union-skip t s p e) }
-
-    pub uniting-take : {r' : List ℕ} → t p ≡ true → bit_at r' ≡ join (bit_at r) (s p) → Uniting n t s r' (p + 1)
-    uniting-take e f = record { most = omega arith; joined = f ∙ ap (λ (x : ℕ → Bool). join x (s p)) g.joined ∙ sym (union-take t s p e) }
-
-  pub uniting-all : {p : ℕ} → Uniting n t s r p → n ≤ p → bit_at r ≡ union t s n
-  uniting-all {p} g h = let e : p ≡ n = omega (arith, g.most) in g.joined ∙ ap (union t s) e
-
--- those below p whose set in s has a: whether there are any, and their sets in u gathered into r
-pub record Picking (n : ℕ) (t : ℕ → Bool) (s u : ℕ → ℕ → Bool) (a : ℕ) (x : Bool) (r : List ℕ) (p : ℕ) : Type 0 where
-  pub any : x ≡ union t s p a
-  pub joined : Uniting n (having t s a) u r p
-
-module _ {n : ℕ} {t : ℕ → Bool} {s u : ℕ → ℕ → Bool} {a : ℕ} {r : List ℕ} where
-  pub pick-none : bit_at r ≡ nothing → Picking n t s u a false r 0
+module _ {t : ℕ → Bool} {s u : ℕ → ℕ → Bool} {a : ℕ} where
+  pub pick-none : {y : ℕ → Bool} → y ≡ nothing → Picks 0 t s u a false y
   unfolding union
-  pick-none e = record { any = sym (some-zero (having t s a)); joined = uniting-none e }
+  pick-none e = record { any = sym (some-zero (having t s a)); joined = e ∙ sym (union-none (having t s a) u) }
 
-  module _ {x : Bool} {p : ℕ} (g : Picking n t s u a x r p) (h : p < n) where
-    pub pick-skip : (t p && s p a) ≡ false → Picking n t s u a x r (p + 1)
+  module _ {x : Bool} {y : ℕ → Bool} {p : ℕ} (g : Picks p t s u a x y) where
+    pub pick-skip : (t p && s p a) ≡ false → Picks (p + 1) t s u a x y
     unfolding union having
-    pick-skip e = record { any = g.any ∙ sym (some-skip (having t s a) p e); joined = uniting-skip g.joined h e }
+    pick-skip e = record { any = g.any ∙ sym (some-skip (having t s a) p e); joined = g.joined ∙ sym (union-skip (having t s a) u p e) }
 
-    pub pick-take : {r' : List ℕ} → (t p && s p a) ≡ true → bit_at r' ≡ join (bit_at r) (u p) → Picking n t s u a true r' (p + 1)
+    pub pick-take : {z : ℕ → Bool} → (t p && s p a) ≡ true → z ≡ join y (u p) → Picks (p + 1) t s u a true z
     unfolding union having
-    pick-take e f = record { any = sym (some-take (having t s a) p e); joined = uniting-take g.joined h e f }
-
-  pub pick_all : {x : Bool} {p : ℕ} → Picking n t s u a x r p → n ≤ p → Picks n t s u a x (bit_at r)
-  pick_all {p = p} g h = let e : p ≡ n = omega (arith, g.joined.most) in record { any = g.any ∙ ap (λ (k : ℕ). union t s k a) e; joined = uniting-all g.joined h }
+    pick-take e f = record {
+      any = sym (some-take (having t s a) p e);
+      joined = f ∙ ap (λ (x : ℕ → Bool). join x (u p)) g.joined ∙ sym (union-take (having t s a) u p e);
+    }
 
 -- ---- the rules over sets
 

@@ -1,7 +1,8 @@
 -- The written rules over sets: policies are numbers below n, those of a direction a set, each with the set that it selects and the
 -- set that it allows.
-use Rattle.std.specs.Prelude.{◌≡◌, Bool, not, ◌&&◌, ◌||◌, ℕ}
-use Rattle.bitrow.specs.Set.{some}
+use Rattle.std.specs.Prelude.{◌≡◌, Bool, not, ◌&&◌, ◌||◌, Option, Some, None, List, ℕ}
+use Rattle.bitrow.specs.Bit.{bit_at}
+use Rattle.bitrow.specs.Set.{nothing, some}
 
 -- those of t whose set has a
 unfoldable pub having : (ℕ → Bool) → (ℕ → ℕ → Bool) → ℕ → ℕ → Bool
@@ -15,6 +16,11 @@ union t s n j = some (having t s j) n
 pub record Picks (n : ℕ) (t : ℕ → Bool) (s u : ℕ → ℕ → Bool) (a : ℕ) (x : Bool) (y : ℕ → Bool) : Type 0 where
   pub any : x ≡ union t s n a
   pub joined : y ≡ union (having t s a) u n
+
+-- the row that was picked; nothing where there is none
+abbrev pub picked : Option (List ℕ) → ℕ → Bool
+picked None = nothing
+picked (Some r) = bit_at r
 
 -- no policy of w selects c, or some policy of w selects c and allows o
 unfoldable pub sets_let : ℕ → (ℕ → Bool) → (ℕ → ℕ → Bool) → (ℕ → ℕ → Bool) → ℕ → ℕ → Bool

@@ -3,7 +3,8 @@ use mathlib.Core.Path.{◌≡◌, refl, sym, ap, ap₂, ◌∙◌, fun_ext}
 use mathlib.Core.Bool.{Bool, true, false, not, ◌&&◌, true≢false}
 use mathlib.Core.List.{List, []}
 use mathlib.Core.Option.{Option, none, some}
-use Prim.Native.Nat.{ℕ, zero, suc, ◌+◌, ◌%◌, ◌≤◌, ◌<◌}
+use Rattle.std.specs.Prelude.{Option as Known, Some, None}
+use Prim.Native.Nat.{ℕ, zero, suc, ◌+◌, ◌%◌, ◌<◌}
 use native.Mathlib.Decide.{ℕ_discrete}
 use native.Mathlib.Omega.{arith}
 use lib.ListN.{length, get_or, set, replicate, length-set, length-replicate}
@@ -22,6 +23,7 @@ use Rattle.formed.proofs.Reading.{policy-slot, policy-stands, policy-free}
 use Rattle.entries.specs.Entries.{trial_set}
 use Rattle.entries.proofs.Trials.{select_row, allow-row}
 use Rattle.entries.proofs.FormedEntries.{formed-select, formed-allow}
+use Rattle.sets.specs.declared.PolicySets.{PolicySets}
 use Rattle.sets.specs.Sets.{bits, RowsAre, Empty, EmptyBut, KnownSets, SetsOf, part_set, PartsWithin}
 
 -- ---- an array of empty rows, and what is past it
@@ -43,58 +45,31 @@ empty-rows n = record { shape = record { size = length-replicate n (replicate 4 
 -- ---- an array of rows, filled from the front
 
 -- of n rows the first p are f's, and row k, where there is one
-pub record Filled (n k : ℕ) (f : ℕ → ℕ → Bool) (rows : List (List ℕ)) (p : ℕ) : Type 0 where
+pub record Filled (n : ℕ) (k : Known ℕ) (f : ℕ → ℕ → Bool) (rows : List (List ℕ)) (p : ℕ) : Type 0 where
   pub size : length rows ≡ n
-  pub most : p ≤ n
   pub row : (q : ℕ) → q < p → bits rows q ≡ f q
-  pub known : k < n → bits rows k ≡ f k
-
-module _ {n k : ℕ} {f : ℕ → ℕ → Bool} {rows : List (List ℕ)} where
-  pub fill_none : EmptyBut n k f rows → Filled n k f rows 0
-  fill_none e = record { size = e.size; most = omega arith; row = λ q h. absurd (omega arith); known = e.row }
-
-  module _ {p : ℕ} (g : Filled n k f rows p) (h : p < n) where
-    pub fill-next : (row : List ℕ) → (p ≡ k → ⊥) → bit_at row ≡ f p → Filled n k f (set rows p row) (p + 1)
-    fill-next row d e = record {
-      size = length-set rows p row ∙ g.size;
-      most = omega arith;
-      row = λ q l. go q l (ℕ_discrete q p);
-      known = λ l. ap bit_at (get_or-set_other rows p k row [] (λ i. d (sym i))) ∙ g.known l;
-    }
-      where
-        go : (q : ℕ) → q < p + 1 → Dec (q ≡ p) → bits (set rows p row) q ≡ f q
-        go q l (yes i) = ap (bits (set rows p row)) i ∙ ap bit_at (get_or-set_same rows p row [] (omega (arith, g.size))) ∙ e ∙ sym (ap f i)
-        go q l (no i) = ap bit_at (get_or-set_other rows p q row [] i) ∙ g.row q (omega arith)
-
-    pub fill-skip : p ≡ k → Filled n k f rows (p + 1)
-    fill-skip e = record { size = g.size; most = omega arith; row = λ q l. go q l (ℕ_discrete q k); known = g.known }
-      where
-        go : (q : ℕ) → q < p + 1 → Dec (q ≡ k) → bits rows q ≡ f q
-        go q l (yes i) = ap (bits rows) i ∙ g.known (omega arith) ∙ sym (ap f i)
-        go q l (no i) = g.row q (omega arith)
-
-  pub fill-all : {p : ℕ} → Filled n k f rows p → n ≤ p → RowsAre n f rows
-  fill-all g h = record { row = λ q l. g.row q (omega arith) }
+  pub known : (q : ℕ) → k ≡ Some q → q < n → bits rows q ≡ f q
 
 -- ---- rows that are there before the filling
 
 module _ {n : ℕ} {f : ℕ → ℕ → Bool} {rows : List (List ℕ)} (e : Empty n rows) where
-  but-none : EmptyBut n n f rows
-  but-none = record { size = e.shape.size; row = λ h. absurd (omega arith); others = λ q d. e.row q }
+  but-none : EmptyBut n None f rows
+  but-none = record { size = e.shape.size; row = λ q i l. cc; others = λ q d. e.row q }
 
-  but-one : {k : ℕ} (row : List ℕ) → k < n → bit_at row ≡ f k → EmptyBut n k f (set rows k row)
+  but-one : {k : ℕ} (row : List ℕ) → k < n → bit_at row ≡ f k → EmptyBut n (Some k) f (set rows k row)
   but-one {k} row h r = record {
     size = length-set rows k row ∙ e.shape.size;
-    row = λ l. ap bit_at (get_or-set_same rows k row [] (omega (arith, e.shape.size))) ∙ r;
-    others = λ q d. ap bit_at (get_or-set_other rows k q row [] d) ∙ e.row q;
+    row = λ q i l. let j : q ≡ k = cc in ap (bits (set rows k row)) j ∙ ap bit_at (get_or-set_same rows k row [] (omega (arith, e.shape.size))) ∙ r ∙ sym (ap f j);
+    others = λ q d. ap bit_at (get_or-set_other rows k q row [] (λ j. d (ap Some (sym j)))) ∙ e.row q;
   }
 
-module _ {m : Model} {sel alw : List (List ℕ)} (s : Empty policy_slots sel) (a : Empty policy_slots alw) where
-  pub none-known : KnownSets m policy_slots sel alw
-  none-known = record { selected = but-none s; allowed = but-none a }
+module _ {m : Model} {s : PolicySets} (e : Empty policy_slots s.selected) (f : Empty policy_slots s.allowed) where
+  pub none-known : KnownSets m None s
+  none-known = record { selected = but-none e; allowed = but-none f }
 
-  pub one_known : {k : ℕ} (x y : List ℕ) → k < policy_slots → bit_at x ≡ selected_bit m k → bit_at y ≡ allowed_bit m k → KnownSets m k (set sel k x) (set alw k y)
-  one_known x y h ex ey = record { selected = but-one s x h ex; allowed = but-one a y h ey }
+  pub one_known : {k : ℕ} (x y : List ℕ) → k < policy_slots → bit_at x ≡ selected_bit m k → bit_at y ≡ allowed_bit m k
+      → KnownSets m (Some k) (record { selected = set s.selected k x; allowed = set s.allowed k y })
+  one_known x y h ex ey = record { selected = but-one e x h ex; allowed = but-one f y h ey }
 
 -- ---- the rows that a memory's policies say
 
@@ -145,11 +120,11 @@ module _ (m : List ℕ) (q : ℕ) (h : q < policy_slots) where
 
 -- what `fill` finds and leaves, over the standing containers
 module _ (m : List ℕ) {s : ℕ → Bool} (e : s ≡ stands (model_in m).containers) {rows : List (List ℕ)} where
-  pub selected-known : {k : ℕ} → EmptyBut policy_slots k (selected_bit (model_in m)) rows → EmptyBut policy_slots k (part_set m s select_offset) rows
-  selected-known {k} r = record { size = r.size; row = λ h. r.row h ∙ sym (ap (λ t. part_set m t select_offset k) e ∙ selected-set m k h); others = r.others }
+  pub selected-known : {k : Known ℕ} → EmptyBut policy_slots k (selected_bit (model_in m)) rows → EmptyBut policy_slots k (part_set m s select_offset) rows
+  selected-known r = record { size = r.size; row = λ q i h. r.row q i h ∙ sym (ap (λ t. part_set m t select_offset q) e ∙ selected-set m q h); others = r.others }
 
-  pub allowed-known : {k : ℕ} → EmptyBut policy_slots k (allowed_bit (model_in m)) rows → EmptyBut policy_slots k (part_set m s allow_offset) rows
-  allowed-known {k} r = record { size = r.size; row = λ h. r.row h ∙ sym (ap (λ t. part_set m t allow_offset k) e ∙ allowed-set m k h); others = r.others }
+  pub allowed-known : {k : Known ℕ} → EmptyBut policy_slots k (allowed_bit (model_in m)) rows → EmptyBut policy_slots k (part_set m s allow_offset) rows
+  allowed-known r = record { size = r.size; row = λ q i h. r.row q i h ∙ sym (ap (λ t. part_set m t allow_offset q) e ∙ allowed-set m q h); others = r.others }
 
   pub selected-rows : RowsAre policy_slots (part_set m s select_offset) rows → RowsAre policy_slots (selected_bit (model_in m)) rows
   selected-rows r = record { row = λ q h. r.row q h ∙ ap (λ t. part_set m t select_offset q) e ∙ selected-set m q h }
@@ -164,12 +139,19 @@ on-free f none e = refl
 on-free f (some x) e = absurd (true≢false e)
 
 -- where f has nothing, the rows stand as they are
-rows-nothing : {n k : ℕ} {f : ℕ → ℕ → Bool} {rows : List (List ℕ)} → EmptyBut n k f rows → ((q : ℕ) → q < n → nothing ≡ f q) → RowsAre n f rows
-rows-nothing {n} {k} {f} {rows} e none-there = record { row = λ q h. go q h (ℕ_discrete q k) }
+rows-nothing : {n : ℕ} {k : Known ℕ} {f : ℕ → ℕ → Bool} {rows : List (List ℕ)} → EmptyBut n k f rows → ((q : ℕ) → q < n → nothing ≡ f q) → RowsAre n f rows
+rows-nothing {n} {k} {f} {rows} e none-there = record { row = λ q h. go q h k refl }
   where
-    go : (q : ℕ) → q < n → Dec (q ≡ k) → bits rows q ≡ f q
-    go q h (yes i) = ap (bits rows) i ∙ e.row (omega arith) ∙ sym (ap f i)
-    go q h (no i) = e.others q i ∙ none-there q h
+    other : (q : ℕ) → q < n → (k ≡ Some q → ⊥) → bits rows q ≡ f q
+    other q h d = e.others q d ∙ none-there q h
+
+    by_slot : (q j : ℕ) → q < n → k ≡ Some j → Dec (q ≡ j) → bits rows q ≡ f q
+    by_slot q j h i (yes d) = e.row q (i ∙ ap Some (sym d)) h
+    by_slot q j h i (no d) = other q h (λ l. d (cc))
+
+    go : (q : ℕ) → q < n → (o : Known ℕ) → k ≡ o → bits rows q ≡ f q
+    go q h None i = other q h (λ l. cc)
+    go q h (Some j) i = by_slot q j h i (ℕ_discrete q j)
 
 module _ (m : Model) (none-stands : not (has_some (stands m.policies)) ≡ true) where
   free : (q : ℕ) → q < policy_slots → on (λ p. true) (at m.policies q) ≡ false
@@ -183,5 +165,5 @@ module _ (m : Model) (none-stands : not (has_some (stands m.policies)) ≡ true)
   unfolding nothing allowed_bit
   allows-none q h = fun_ext (λ c. on-free _ (at m.policies q) (free q h))
 
-  pub sets-none : {k : ℕ} {sel alw : List (List ℕ)} → KnownSets m k sel alw → SetsOf m sel alw
+  pub sets-none : {k : Known ℕ} {s : PolicySets} → KnownSets m k s → SetsOf m s
   sets-none g = record { selected = rows-nothing g.selected selects-none; allowed = rows-nothing g.allowed allows-none }

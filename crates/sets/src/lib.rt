@@ -8,7 +8,18 @@ ghost use Rattle.formed.specs.Registry.{EntriesFormed};
 ghost use Rattle.label_table.specs.LabelRows.{LabelRows};
 ghost use Rattle.sets.specs.Sets.{RowsAre, EmptyBut, part_set, PartsWithin};
 
+use label_table::LabelTable;
+
+// "Two sets for each policy: the containers it selects and those it allows."
+#[derive(Drop)]
+pub struct PolicySets {
+    pub selected: [[u64; 4]; 128],
+    pub allowed: [[u64; 4]; 128],
+}
+
 // Of the candidates, those that the part at an offset of policy q's slot matches; none where the slot is free.
+// Kept: `PartsWithin` in three contracts ties two arguments, the memory and the offset; a type that has both would lend the memory again
+// beside the one that the other clauses are of, and is no plainer.
 pub fn part_row(memory: &[u64], q: usize, offset: usize, candidates: [u64; 4]) -> [u64; 4]
     requires { EntriesFormed memory.now × (q < 128) × PartsWithin memory.now offset }
     ensures { bit_at result ≡ part_set memory.now (bit_at candidates) offset q }
@@ -23,43 +34,38 @@ pub fn part_row(memory: &[u64], q: usize, offset: usize, candidates: [u64; 4]) -
 // The same by the label rows.
 fn part_by_labels(
     memory: &[u64],
-    table: &[u64; 1024],
-    rows: &[[u64; 4]; 1024],
+    table: &LabelTable,
     q: usize,
     offset: usize,
     candidates: [u64; 4],
 ) -> [u64; 4]
-    requires { EntriesFormed memory.now × (q < 128) × PartsWithin memory.now offset × LabelRows memory.now table.now 256 rows.now }
+    requires { EntriesFormed memory.now × (q < 128) × PartsWithin memory.now offset × LabelRows memory.now 256 table.now }
     ensures { bit_at result ≡ part_set memory.now (bit_at candidates) offset q }
 {
     let at = store::POLICIES + store::POLICY_WORDS * q;
     if memory[at] == 0 {
         return row_sets::none();
     }
-    label_rows::matching(memory, table, rows, at + offset, candidates)
+    label_rows::matching(memory, table, at + offset, candidates)
 }
 
 // Such a row for each policy but `known`, whose row is there already.
 pub fn fill(
-    sets: &mut [[u64; 4]; 128],
-    known: usize,
+    rows: &mut [[u64; 4]; 128],
+    known: Option<usize>,
     memory: &[u64],
-    table: &[u64; 1024],
-    rows: &[[u64; 4]; 1024],
+    table: &LabelTable,
     offset: usize,
     candidates: [u64; 4],
 )
-    requires entries_formed { EntriesFormed memory.now × PartsWithin memory.now offset × LabelRows memory.now table.now 256 rows.now }
-    requires empty_but { EmptyBut policy_slots known (part_set memory.now (bit_at candidates) offset) sets.old }
-    ensures { RowsAre 128 (part_set memory.now (bit_at candidates) offset) sets.new }
+    requires entries_formed { EntriesFormed memory.now × PartsWithin memory.now offset × LabelRows memory.now 256 table.now }
+    requires empty_but { EmptyBut policy_slots known (part_set memory.now (bit_at candidates) offset) rows.old }
+    ensures { RowsAre 128 (part_set memory.now (bit_at candidates) offset) rows.new }
 {
-    let mut next = 0;
-    while next < store::POLICY_SLOTS {
-        let q = next;
-        next += 1;
-        if q != known {
-            let row = part_by_labels(memory, table, rows, q, offset, candidates);
-            sets[q] = row;
+    for q in 0..store::POLICY_SLOTS {
+        if known != Some(q) {
+            let row = part_by_labels(memory, table, q, offset, candidates);
+            rows[q] = row;
         }
     }
 }

@@ -7,4 +7,4 @@ use Rattle.all_sets.proofs.fill_sets.Goals as goal
 
 pub returns-then-is_empty : goal.returns-then-is_empty
 returns-then-is_empty c =
-    sets-none _ (sym (c.is_empty.ensures ∙ ap (λ s. not (has_some s)) c.policies_standing.ensures) ∙ c.if-is_empty.true) c.requires.known_sets
+    sets-none _ (sym (c.is_empty.ensures ∙ ap (λ s. not (has_some s)) c.standing.ensures) ∙ c.if-is_empty.true) c.requires.known_sets
