@@ -7,7 +7,8 @@ use Rattle.bitrow.specs.Bit.{bit_at}
 use Rattle.bitrow.specs.Set.{nothing, join, has_some, Bounded}
 use Rattle.bitrow.proofs.Sets.{point, nothing-at, join-at, bounded-nothing, bounded-ext}
 use Rattle.bitrow.proofs.Tests.{has_some-absent}
-use Rattle.block.specs.Entry.{Direction, ingress, egress}
+use Rattle.block.specs.declared.Direction.{Direction}
+use Rattle.block.specs.declared.Direction.TheVariants.{Ingress as ingress, Egress as egress}
 use Rattle.model.specs.Table.{any, stands}
 use Rattle.model.specs.Model.{Model, computed_bits}
 use Rattle.model.specs.Registry.{Registry, BitsStand, computed, set_where}

@@ -7,7 +7,8 @@ use Prim.Native.Nat.{ℕ}
 use lib.ListN.{length}
 use Rattle.bitrow.specs.Set.{meet, join, some}
 use Rattle.bitrow.proofs.Tests.{some-cong}
-use Rattle.block.specs.Entry.{Direction, Policy}
+use Rattle.block.specs.declared.Direction.{Direction}
+use Rattle.block.specs.Entry.{Policy}
 use Rattle.model.specs.Table.{on, at, stands}
 use Rattle.model.specs.Rules.{same_direction, selects}
 use Rattle.model.specs.Model.{policy_slots, Model, selected_bit}

@@ -2,7 +2,7 @@
 use Rattle.std.specs.Prelude.{◌≡◌, Bool, ◌||◌, ℕ}
 use Rattle.bitrow.specs.Bit.{bit_at}
 use Rattle.bitrow.specs.Set.{under, meet, join}
-use Rattle.block.specs.Entry.{ingress, egress}
+use Rattle.block.specs.declared.Direction.TheVariants.{Ingress as ingress, Egress as egress}
 use Rattle.model.specs.Model.{Model, Bits, computed_bits}
 use Rattle.model.specs.Registry.{Registry, set_where}
 use Rattle.model.specs.Settled.{some_came_selects, touched_set}

@@ -4,14 +4,13 @@
 ghost use Rattle.std.specs.Prelude.{◌≡◌, true, ◌<◌};
 ghost use Rattle.bitrow.specs.Bit.{bit_at};
 ghost use Rattle.model.specs.Table.{stands};
-ghost use Rattle.model.specs.Model.{policy_slots, selected_bit};
 ghost use Rattle.model.specs.Settled.{settled};
 ghost use Rattle.store.specs.Layout.{row_count};
 ghost use Rattle.formed.specs.Registry.{model_in, registry_in, image, EntriesFormed, well_formed};
-ghost use Rattle.sets.specs.Sets.{RowsAre};
 ghost use Rattle.matrix_rows.specs.Rows.{Gathers};
 ghost use Rattle.arrivals.specs.Anew.{mask_of, set_anew, TouchedBy};
 
+use block::Direction;
 use matrix_rows::Gathered;
 
 // What is set anew: these rows and columns of the matrix, the sets of these policies, and the bits of these containers in every set.
@@ -29,75 +28,59 @@ fn mask_of(r: usize, touched: Touched) -> [u64; 4]
     ensures { bit_at result ≡ mask_of touched r }
 {
     if r < store::SELECTED_ROWS {
-        let rows = touched.rows;
-        if row_sets::has(rows, r) {
+        if row_sets::has(touched.rows, r) {
             return row_sets::all();
         }
         return touched.columns;
     }
     let q = (r - store::SELECTED_ROWS) / store::SET_STEP;
-    let policies = touched.policies;
-    if row_sets::has(policies, q) {
+    if row_sets::has(touched.policies, q) {
         return row_sets::all();
     }
     touched.containers
 }
 
 // What containers and policies that came touch: the rows of what the egress policies among them select, the columns of what the
-// ingress policies select. `selected` has what each policy selects.
+// ingress policies select.
 fn touched_by(
     memory: &[u64],
-    standing: [u64; 4],
-    selected: &[[u64; 4]; 128],
+    gathered: &Gathered,
     containers: [u64; 4],
     policies: [u64; 4],
 ) -> Touched
-    requires entries_formed { EntriesFormed memory.now × (bit_at standing ≡ stands (model_in memory.now).containers) }
-    requires rows_are { RowsAre policy_slots (selected_bit (model_in memory.now)) selected.now }
+    requires entries_formed { EntriesFormed memory.now }
+    requires gathers { Gathers (model_in memory.now) (stands (model_in memory.now).containers) gathered.now }
     ensures { TouchedBy (model_in memory.now) (bit_at containers) (bit_at policies) result }
 {
-    let sides = reach::sides_of(memory, standing, selected, 2);
-    let out = sides.out;
-    let back = sides.back;
-    let leaving = rules::union_of(row_sets::both(policies, out), selected);
-    let taking = rules::union_of(row_sets::both(policies, back), selected);
-    let rows = row_sets::either(containers, leaving);
-    let columns = row_sets::either(containers, taking);
+    let selected = &gathered.sets.selected;
+    let sides = reach::sides_of(memory, gathered.standing, selected, Direction::Egress);
+    let leaving = rules::union_of(row_sets::both(policies, sides.out), selected);
+    let taking = rules::union_of(row_sets::both(policies, sides.back), selected);
     Touched {
-        rows,
-        columns,
+        rows: row_sets::either(containers, leaving),
+        columns: row_sets::either(containers, taking),
         policies,
         containers,
     }
 }
 
 // Row by row, what is touched set by the rules, from what is gathered for all that stand.
-fn set_touched(
-    memory: &mut [u64],
-    touched: Touched,
-    gathered: Gathered,
-    selected: &[[u64; 4]; 128],
-    allowed: &[[u64; 4]; 128],
-    outs: &[[u64; 4]; 256],
-    backs: &[[u64; 4]; 256],
-)
+fn set_touched(memory: &mut [u64], touched: Touched, gathered: &Gathered)
     requires entries_formed { EntriesFormed memory.old }
-    requires gathers { Gathers (model_in memory.old) (stands (model_in memory.old).containers) gathered selected.now allowed.now outs.now backs.now }
+    requires gathers { Gathers (model_in memory.old) (stands (model_in memory.old).containers) gathered.now }
     ensures { memory.new ≡ image (set_anew touched (registry_in memory.old)) }
 {
-    let mut r = 0;
-    while r < store::ROW_COUNT {
-        let row = r;
-        r += 1;
-        let mask = mask_of(row, touched);
+    for r in 0..store::ROW_COUNT {
+        let mask = mask_of(r, touched);
         if !row_tests::is_empty(mask) {
-            let ruled = whole::row_of_bits(row, gathered, selected, allowed, outs, backs);
-            matrix_resets::reset_row(memory, row, mask, ruled);
+            let ruled = whole::row_of_bits(r, gathered);
+            matrix_resets::reset_row(memory, r, mask, ruled);
         }
     }
 }
 
 // What containers and policies that came touch, set once by the rules from the entries.
+// Kept: what is asked of the memory stands in the contract, since over C it is words, lent for one call.
 pub fn settle_came(memory: &mut [u64], containers: [u64; 4], policies: [u64; 4])
     requires { well_formed memory.old ≡ true }
     ensures { memory.new ≡ image (settled (bit_at containers) (bit_at policies) (registry_in memory.old)) }
@@ -105,23 +88,9 @@ pub fn settle_came(memory: &mut [u64], containers: [u64; 4], policies: [u64; 4])
     if row_tests::is_empty(row_sets::either(containers, policies)) {
         return;
     }
-    let mut selected = [[0u64; 4]; 128];
-    let mut allowed = [[0u64; 4]; 128];
-    let mut outs = [[0u64; 4]; 256];
-    let mut backs = [[0u64; 4]; 256];
-    let standing = stored::containers_standing(memory);
-    let gathered = matrix_rows::gather(
-        memory,
-        standing,
-        128,
-        standing,
-        &mut selected,
-        &mut allowed,
-        &mut outs,
-        &mut backs,
-    );
-    let touched = touched_by(memory, standing, &selected, containers, policies);
-    set_touched(
-        memory, touched, gathered, &selected, &allowed, &outs, &backs,
-    );
+    let standing = stored::standing::<model::ContainerSlot>(memory);
+    let mut gathered = matrix_rows::ungathered(standing);
+    matrix_rows::gather(memory, None, standing, &mut gathered);
+    let touched = touched_by(memory, &gathered, containers, policies);
+    set_touched(memory, touched, &gathered);
 }

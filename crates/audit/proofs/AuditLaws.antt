@@ -1,9 +1,11 @@
 -- Every stored bit by the rules: what an audit compares.
-use mathlib.Core.Path.{◌≡◌, sym, ap, ap₂, ◌∙◌}
-use mathlib.Core.Bool.{Bool, true}
+use mathlib.Core.Path.{◌≡◌, refl, sym, ap, ap₂, ◌∙◌}
+use mathlib.Core.Bool.{Bool, true, false, ◌&&◌}
 use mathlib.Core.List.{List}
-use Prim.Native.Nat.{ℕ, ◌<◌}
+use Prim.Native.Nat.{ℕ, zero, suc, ◌+◌, ◌<◌}
+use native.Mathlib.Nat.{sub-zero}
 use native.Mathlib.Omega.{arith}
+use Rattle.std.specs.List.{list_all, range_with_len}
 use Rattle.bitrow.specs.Bit.{bit_at}
 use Rattle.bitrow.specs.Set.{equal}
 use Rattle.bitrow.proofs.Tests.{same_test, equal-all, equal-in}
@@ -14,11 +16,25 @@ use Rattle.store.specs.Layout.{row_count, row_at}
 use Rattle.store.specs.Contents.{Holds}
 use Rattle.store.proofs.Carried.{row-bit}
 use Rattle.formed.specs.Registry.{model_in, bits_in, registry_in, stored_bit, contents_of, EntriesFormed}
-use Rattle.formed.specs.Tests.{between}
+use Rattle.formed.specs.Tests.{◌and◌, every, between}
 use Rattle.formed.proofs.Runs.{between-at, between-all}
 use Rattle.formed.proofs.Back.{matrix-bit, selected-bit, allowed-bit}
 use Rattle.formed.proofs.Reading.{entries-hold}
 use Rattle.formed.proofs.StoredLaws.{stored-cong}
+use Rattle.matrix_rows.specs.declared.Gathered.{Gathered}
+use Rattle.matrix_rows.specs.Rows.{Gathers}
+use Rattle.whole.specs.StoredRows.{StoredFrom}
+use Rattle.model.specs.Table.{stands}
+
+-- a test of each place in a run, by the list of the places
+every-listed : (f : ℕ → Bool) (i n : ℕ) → every f i n ≡ list_all f (range_with_len i n)
+unfolding ◌and◌
+every-listed f i zero = refl
+every-listed f i (suc n) = elim (f i) as (λ t. (t and every f (i + 1) n) ≡ (t && list_all f (range_with_len (i + 1) n))) [ true ↦ every-listed f (i + 1) n | false ↦ refl ]
+
+between-listed : (f : ℕ → Bool) (n : ℕ) → between f 0 n ≡ list_all f (range_with_len 0 n)
+unfolding between
+between-listed f n = ap (every f 0) (sub-zero n) ∙ every-listed f 0 n
 
 -- row x of a memory is by the rules of its entries
 unfoldable pub ruled_row : List ℕ → ℕ → Bool
@@ -53,13 +69,15 @@ module _ (m : List ℕ) (ok : EntriesFormed m) where
         allowed = λ q c k l. sym (allowed-bit r m h q c k l) ∙ allowed-bit (rebuilt r) m g q c k l;
       }
 
-  pub consistent-rows : consistent (registry_in m) ≡ between (ruled_row m) 0 row_count
+  pub consistent-rows : consistent (registry_in m) ≡ list_all (ruled_row m) (range_with_len 0 row_count)
   consistent-rows =
       same_test _ _
       (λ e. between-all (ruled_row m) 0 row_count (λ x l h. follows-row ((consistent-exactly (registry_in m)).0 e) x h))
       (λ e. (consistent-exactly (registry_in m)).1 (rows-follow (rows-hold (λ x h. between-at (ruled_row m) 0 row_count e x (omega arith) h))))
+      ∙ between-listed (ruled_row m) row_count
 
--- `same(row_at(memory, x), row)`
-pub same_rows : (m : List ℕ) (x : ℕ) (row : List ℕ) {old : List ℕ} {t : Bool} → old ≡ row_at m x → bit_at row ≡ stored_bit (computed_bits (model_in m)) x → t ≡ equal (bit_at old) (bit_at row) → t ≡ ruled_row m x
+-- `same(row_at(memory, x), row)`, where the row is read from what is gathered
+pub row-told : (m : List ℕ) {some : ℕ → Bool} {g : Gathered} → Gathers (model_in m) some g → some ≡ stands (model_in m).containers
+    → {x : ℕ} {old row : List ℕ} {t : Bool} → StoredFrom g x row → old ≡ row_at m x → t ≡ equal (bit_at old) (bit_at row) → t ≡ ruled_row m x
 unfolding ruled_row
-same_rows m x row e r f = f ∙ ap₂ equal (ap bit_at e) r
+row-told m g e r o f = f ∙ ap₂ equal (ap bit_at o) (r.is g e)

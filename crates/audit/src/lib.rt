@@ -10,28 +10,10 @@ pub fn is_consistent(memory: &[u64]) -> bool
     requires { EntriesFormed memory.now }
     ensures { result ≡ consistent (registry_in memory.now) }
 {
-    let mut selected = [[0u64; 4]; 128];
-    let mut allowed = [[0u64; 4]; 128];
-    let mut outs = [[0u64; 4]; 256];
-    let mut backs = [[0u64; 4]; 256];
-    let standing = stored::containers_standing(memory);
-    let gathered = matrix_rows::gather(
-        memory,
-        standing,
-        128,
-        standing,
-        &mut selected,
-        &mut allowed,
-        &mut outs,
-        &mut backs,
-    );
-    let mut x = 0;
-    while x < store::ROW_COUNT {
-        let row = whole::row_of_bits(x, gathered, &selected, &allowed, &outs, &backs);
-        if !row_tests::same(access::row_at(memory, x), row) {
-            return false;
-        }
-        x += 1;
-    }
-    true
+    let standing = stored::standing::<model::ContainerSlot>(memory);
+    let mut gathered = matrix_rows::ungathered(standing);
+    matrix_rows::gather(memory, None, standing, &mut gathered);
+    (0..store::ROW_COUNT).all(|x| {
+        row_tests::same(access::row_at(memory, x), whole::row_of_bits(x, &gathered))
+    })
 }

@@ -13,6 +13,8 @@ ghost use Rattle.formed.specs.Registry.{registry_in, image, EntriesFormed};
 use model::ContainerSlot;
 
 // The container at a slot removed: by the rules every bit of a free slot is clear.
+// Kept: `slot.0 < 256`, and `c < 256` below it. A slot that carries its bound would be no plainer: calls over C make slots of any number,
+// and test them, and loops over a table would make one at each index.
 pub fn take_container(memory: &mut [u64], slot: ContainerSlot)
     requires { EntriesFormed memory.old × (slot.0 < 256) }
     ensures { memory.new ≡ image (change_container (registry_in memory.old) slot.0 none) }
@@ -35,6 +37,7 @@ fn set_settings(memory: &mut [u64], settings: block::Settings)
 }
 
 // An accepted open: no entry and no bit, under the settings.
+// Kept: `start` of `report` begins a report and takes no memory: the two share a word alone.
 pub fn start(memory: &mut [u64], settings: block::Settings)
     requires { Whole memory.old }
     ensures { memory.new ≡ image (opened (settings_of settings)) }

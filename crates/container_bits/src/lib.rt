@@ -6,6 +6,7 @@ ghost use Rattle.store.specs.Layout.{Whole};
 ghost use Rattle.container_bits.specs.ContainerBits.{bits_set};
 
 // Container c's row and column of the matrix stored, and its bit in each policy's selected and allowed set.
+#[tactic(auto, unfolding(crate::specs::ContainerBits::bits_set))]
 pub fn store_bits(
     memory: &mut [u64],
     c: usize,
@@ -19,6 +20,6 @@ pub fn store_bits(
 {
     access::set_row(memory, c, row);
     columns::set_column(memory, store::MATRIX, c, column);
-    columns::set_column(memory, store::SELECTED, c, selected);
-    columns::set_column(memory, store::ALLOWED, c, allowed);
+    columns::set_column(memory, store::Part::Select.band(), c, selected);
+    columns::set_column(memory, store::Part::Allow.band(), c, allowed);
 }

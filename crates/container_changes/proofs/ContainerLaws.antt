@@ -19,6 +19,7 @@ use Rattle.formed.proofs.Back.{image-written}
 use Rattle.formed.proofs.Reading.{entries-hold}
 use Rattle.formed.proofs.Placed.{container-placed-valid, container-placed-in, image-entries, image-says}
 use Rattle.formed.proofs.StoredLaws.{Fit}
+use Rattle.sets.specs.declared.PolicySets.{PolicySets}
 use Rattle.sets.specs.Sets.{bits, SetsOf}
 use Rattle.container_bits.specs.ContainerBits.{bits_set, holding_set}
 use Rattle.container_bits.proofs.HoldingLaws.{holding-at}
@@ -71,13 +72,13 @@ module _ (m : List ℕ) (ok : EntriesFormed m) (c : ℕ) (x : Container) (v : va
 
 -- ---- the rows that the rules give of a model's sets
 
-module _ (p : Model) (c : ℕ) {row column selecting allowing : List ℕ} {sel alw : List (List ℕ)} where
-  pub bits-by-rules : bit_at row ≡ matrix_bit p c → bit_at column ≡ (λ a. matrix_bit p a c) → SetsOf p sel alw
-      → bit_at selecting ≡ holding_set policy_slots (bits sel) c → bit_at allowing ≡ holding_set policy_slots (bits alw) c → BitsOf c (computed_bits p) row column selecting allowing
+module _ (p : Model) (c : ℕ) {row column selecting allowing : List ℕ} {sets : PolicySets} where
+  pub bits-by-rules : bit_at row ≡ matrix_bit p c → bit_at column ≡ (λ a. matrix_bit p a c) → SetsOf p sets
+      → bit_at selecting ≡ holding_set policy_slots (bits sets.selected) c → bit_at allowing ≡ holding_set policy_slots (bits sets.allowed) c → BitsOf c (computed_bits p) row column selecting allowing
   unfolding computed_bits
-  bits-by-rules er ec sets es ea = record {
+  bits-by-rules er ec g es ea = record {
     row = λ b h. point er b;
     column = λ a h. point ec a;
-    selected = λ q h. point es q ∙ holding-at policy_slots (bits sel) c q h ∙ point (sets.selected.row q h) c;
-    allowed = λ q h. point ea q ∙ holding-at policy_slots (bits alw) c q h ∙ point (sets.allowed.row q h) c;
+    selected = λ q h. point es q ∙ holding-at policy_slots (bits sets.selected) c q h ∙ point (g.selected.row q h) c;
+    allowed = λ q h. point ea q ∙ holding-at policy_slots (bits sets.allowed) c q h ∙ point (g.allowed.row q h) c;
   }

@@ -10,25 +10,27 @@ ghost use Rattle.formed.specs.Registry.{model_in, registry_in, image, EntriesFor
 ghost use Rattle.container_changes.specs.OneContainer.{refreshed};
 
 use model::ContainerSlot;
+use sets::PolicySets;
 
 // Container c's bits set by the rules from the entries as they stand.
 fn refresh(memory: &mut [u64], c: usize)
     requires { EntriesFormed memory.old × (c < 256) }
     ensures { memory.new ≡ image (refreshed (registry_in memory.old) c) }
 {
-    let mut selected = [[0u64; 4]; 128];
-    let mut allowed = [[0u64; 4]; 128];
-    let standing = stored::containers_standing(memory);
-    all_sets::fill_sets(memory, standing, 128, &mut selected, &mut allowed);
-    let cross = reach::cross_of(memory, standing, &selected, &allowed, c);
-    let selecting = holders::holding(&selected, c);
-    let allowing = holders::holding(&allowed, c);
-    let row = cross.row;
-    let column = cross.column;
-    container_bits::store_bits(memory, c, row, column, selecting, allowing);
+    let standing = stored::standing::<ContainerSlot>(memory);
+    let mut sets = PolicySets {
+        selected: [[0; 4]; 128],
+        allowed: [[0; 4]; 128],
+    };
+    all_sets::fill_sets(memory, standing, None, &mut sets);
+    let cross = reach::cross_of(memory, standing, &sets, c);
+    let selecting = holders::holding(&sets.selected, c);
+    let allowing = holders::holding(&sets.allowed, c);
+    container_bits::store_bits(memory, c, cross.row, cross.column, selecting, allowing);
 }
 
 // The container of an accepted block comes to a slot.
+// Kept: a pair of the slot and the block would be made for this call alone, and taken apart by it.
 pub fn put_container(memory: &mut [u64], slot: ContainerSlot, block: &[u8])
     requires { EntriesFormed memory.old × (slot.0 < 256) × AcceptedAs (model_in memory.old).settings block.now (container (container_said block.now)) }
     ensures { memory.new ≡ image (change_container (registry_in memory.old) slot.0 (some (container_said block.now))) }

@@ -13,10 +13,7 @@ fn holding_word(sets: &[[u64; 4]; 128], first: usize, c: usize) -> u64
 {
     let mut those = 0u64;
     let word = c / 64;
-    let mut i = 0;
-    while i < 64 {
-        let k = i;
-        i += 1;
+    for k in 0..64 {
         if bitrow::bit_of(sets[first + k][word], c) {
             those = bitrow::word_with(those, k);
         }

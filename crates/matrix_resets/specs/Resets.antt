@@ -32,5 +32,5 @@ pub record RowReset (m m' : List ℕ) (a : ℕ) (mask rule : ℕ → Bool) : Typ
   pub holds : (c : Contents) → Holds m c → Holds m' (with_row c a (masked mask rule (c.bits a)))
 
 -- what is read from g for one of some is its row of the matrix of m
-pub record RowsFrom (m : Model) (some : ℕ → Bool) (g : Gathered) (outs backs : List (List ℕ)) : Type 0 where
-  pub row : {a : ℕ} {r : List ℕ} → RowFrom g outs backs a r → some a ≡ true → bit_at r ≡ matrix_bit m a
+pub record RowsFrom (m : Model) (some : ℕ → Bool) (g : Gathered) : Type 0 where
+  pub row : {a : ℕ} {r : List ℕ} → RowFrom g a r → some a ≡ true → bit_at r ≡ matrix_bit m a

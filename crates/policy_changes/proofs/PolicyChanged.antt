@@ -10,7 +10,8 @@ use lib.Seq.{get_or-set_same}
 use borrow.Author.Tests.{not-true}
 use Rattle.bitrow.specs.Set.{has_some}
 use Rattle.block.specs.Entry.{Policy}
-use Rattle.block.specs.Written.{direction_number}
+use Rattle.block.specs.Reader.{direction_of}
+use Rattle.block.proofs.Written.{direction-back}
 use Rattle.model.specs.Table.{on, at, stands}
 use Rattle.model.specs.Rules.{selects}
 use Rattle.model.specs.Model.{policy_slots, Model, with_policy, matrix_bit, selected_bit, allowed_bit, computed_bits}
@@ -52,11 +53,11 @@ selection-with : (m : Model) (q : ℕ) (x : Option Policy) (p : Policy) → sele
 unfolding selection with_policy
 selection-with m q x p = refl
 
--- the direction's word of a policy that stands
-pub stored-direction : (m : List ℕ) → EntriesFormed m → (q : ℕ) → q < policy_slots → (p : Policy) → at (model_in m).policies q ≡ some p → word_at m (policy_start q) ≡ direction_number p.direction
+-- the direction of a policy that stands
+pub stored-direction : (m : List ℕ) → EntriesFormed m → (q : ℕ) → q < policy_slots → (p : Policy) → at (model_in m).policies q ≡ some p → direction_of (word_at m (policy_start q)) ≡ p.direction
 stored-direction m ok q hq p e =
-    first_word m (policy_start q) _ (policy_word (policy_in m q)) (formed-policy m ok q hq)
-    ∙ ap (λ o. policy_word o 0) (sym (policy-slot m q hq) ∙ e)
+    ap direction_of (first_word m (policy_start q) _ (policy_word (policy_in m q)) (formed-policy m ok q hq) ∙ ap (λ o. policy_word o 0) (sym (policy-slot m q hq) ∙ e))
+    ∙ direction-back p.direction
 
 -- the slot holds x, and the bits are as they were
 module _ (m : List ℕ) (ok : EntriesFormed m) (q : ℕ) (hq : q < policy_slots) (x : Option Policy) (v : valid_policy (model_in m).settings x ≡ true) {e1 : List ℕ} (f : e1 ≡ image (policy_placed (registry_in m) q x)) where
@@ -97,17 +98,20 @@ module _ (m : List ℕ) (ok : EntriesFormed m) (q : ℕ) (hq : q < policy_slots)
     pub change-standing : stands (model_in m).containers ≡ stands (model_in e2).containers
     change-standing = held-standing ∙ ap (λ (z : Model). stands z.containers) (sym change-model)
 
+    pub change-selection : (p : Policy) → selection (model_in e1) p ≡ selection (model_in e2) p
+    change-selection p = ap (λ (z : Model). selection z p) (sym change-model)
+
     pub change-stored : SetsStored e2 q
     change-stored = settled-stored e1 held-entries q hq g
 
     -- and the bits of the matrix that p touches by the rules
-    pub change-done : (p : Policy) {named : ℕ → ℕ → Bool} {e3 : List ℕ} → e3 ≡ image (reset_where (registry_in e2) named) → named ≡ touched (model_in e1) p → e3 ≡ image (change_policy (registry_in m) q p x)
+    pub change-done : (p : Policy) {e3 : List ℕ} → e3 ≡ image (reset_where (registry_in e2) (touched (model_in e2) p)) → e3 ≡ image (change_policy (registry_in m) q p x)
     unfolding registry_in settled policy_placed
-    change-done p {named} h k =
-        h ∙ ap (λ (n : ℕ → ℕ → Bool). image (reset_where (registry_in e2) n)) (k ∙ ap (λ (z : Model). touched z p) (sym change-model))
-        ∙ ap (λ (z : Registry). image (reset_where z (touched z.model p))) (settled_says e1 held-entries q hq g ∙ ap (λ (z : Registry). settled z q) held-says)
+    change-done p h =
+        h ∙ ap (λ (z : Registry). image (reset_where z (touched z.model p))) (settled_says e1 held-entries q hq g ∙ ap (λ (z : Registry). settled z q) held-says)
         ∙ ap image (change-is (registry_in m) q p x)
 
     -- of these there are none where p selects nobody
-    pub change-over : (p : Policy) → Fit e2 → {s : ℕ → Bool} → s ≡ selection (model_in e1) p → not (has_some s) ≡ true → e2 ≡ image (change_policy (registry_in m) q p x)
-    change-over p fit k z = change-done p (reset-none e2 change-entries fit (touched (model_in e1) p) (nobody-touched (model_in e1) p (ap has_some (sym k) ∙ not-true _ z))) refl
+    pub change-over : (p : Policy) → Fit e2 → {s : ℕ → Bool} → s ≡ selection (model_in e2) p → not (has_some s) ≡ true → e2 ≡ image (change_policy (registry_in m) q p x)
+    change-over p fit k z =
+        change-done p (reset-none e2 change-entries fit (touched (model_in e2) p) (nobody-touched (model_in e2) p (ap has_some (sym k) ∙ not-true _ z)))

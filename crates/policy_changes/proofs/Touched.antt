@@ -4,26 +4,18 @@ use mathlib.Core.Bool.{Bool, true, false, ◌&&◌, and-true, and-false, or-fals
 use mathlib.Core.List.{List}
 use mathlib.Core.Option.{Option, none, some}
 use Prim.Native.Nat.{ℕ, ◌<◌}
-use native.Mathlib.Omega.{arith}
 use Rattle.bitrow.specs.Bit.{bit_at}
 use Rattle.bitrow.specs.Set.{has_some}
 use Rattle.bitrow.proofs.Tests.{has_some-absent}
-use Rattle.block.specs.Entry.{Container, Direction, ingress, egress, Policy}
-use Rattle.block.specs.Written.{direction_number}
+use Rattle.block.specs.declared.Direction.{Direction}
+use Rattle.block.specs.declared.Direction.TheVariants.{Ingress as ingress, Egress as egress}
+use Rattle.block.specs.Entry.{Container, Policy}
 use Rattle.model.specs.Table.{on, at, stands}
 use Rattle.model.specs.Rules.{same_direction, selects}
 use Rattle.model.specs.Model.{Model}
 use Rattle.model.specs.Registry.{touches, touched}
 use Rattle.matrix_resets.specs.Resets.{product}
 use Rattle.policy_changes.specs.Region.{selection, Touches}
-
-number-egress : (d : Direction) → direction_number d ≡ 2 → d ≡ egress
-number-egress ingress e = absurd (omega arith)
-number-egress egress e = refl
-
-number-ingress : (d : Direction) → (direction_number d ≡ 2 → ⊥) → d ≡ ingress
-number-ingress ingress n = refl
-number-ingress egress n = absurd (n refl)
 
 module _ (m : Model) (p : Policy) where
   touched-egress : p.direction ≡ egress → product (selection m p) (stands m.containers) ≡ touched m p
@@ -56,9 +48,8 @@ nobody-touched m p none-selected a b ha hb = go p.direction refl
     go egress e = ap (λ (f : ℕ → ℕ → Bool). f a b) (sym (touched-egress m p e)) ∙ ap (λ (u : Bool). u && stands m.containers b) (nobody a ha)
     go ingress e = ap (λ (f : ℕ → ℕ → Bool). f a b) (sym (touched-ingress m p e)) ∙ ap (λ (u : Bool). stands m.containers a && u) (nobody b hb) ∙ and-false (stands m.containers a)
 
-module _ (s t : List ℕ) where
-  pub touches-rows : (d : ℕ) → d ≡ 2 → Touches d (bit_at s) (bit_at t) (record { rows = s; columns = t })
-  touches-rows d z = record { is = λ m p e f g. ap₂ product f g ∙ touched-egress m p (number-egress p.direction (sym e ∙ z)) }
+pub touches-egress : (s t : List ℕ) → Touches egress (bit_at s) (bit_at t) (record { rows = s; columns = t })
+touches-egress s t = record { is = λ m p e f g. ap₂ product f g ∙ touched-egress m p (sym e) }
 
-  pub touches-columns : (d : ℕ) → (d ≡ 2 → ⊥) → Touches d (bit_at s) (bit_at t) (record { rows = t; columns = s })
-  touches-columns d z = record { is = λ m p e f g. ap₂ product g f ∙ touched-ingress m p (number-ingress p.direction (λ y. z (e ∙ y))) }
+pub touches-ingress : (s t : List ℕ) → Touches ingress (bit_at s) (bit_at t) (record { rows = t; columns = s })
+touches-ingress s t = record { is = λ m p e f g. ap₂ product g f ∙ touched-ingress m p (sym e) }

@@ -10,8 +10,10 @@ ghost use Rattle.model.specs.Table.{stands};
 ghost use Rattle.model.specs.Registry.{change_policy};
 ghost use Rattle.formed.specs.Words.{policy_at};
 ghost use Rattle.formed.specs.Registry.{model_in, registry_in, image, EntriesFormed};
-ghost use Rattle.policy_changes.specs.Region.{Touches};
+ghost use Rattle.policy_sets.specs.PolicySets.{SetsStored};
+ghost use Rattle.policy_changes.specs.Region.{Touches, TouchedReset};
 
+use block::Direction;
 use model::PolicySlot;
 
 // Bits of the matrix: those in these rows and columns.
@@ -21,20 +23,36 @@ pub struct Region {
     pub columns: [u64; 4],
 }
 
-// What a policy of this direction touches, 1 ingress, 2 egress, that selects these of the standing containers.
-fn region_of(direction: u64, selected: [u64; 4], standing: [u64; 4]) -> Region
+// What a policy of this direction touches that selects these of the standing containers.
+fn region_of(direction: Direction, selected: [u64; 4], standing: [u64; 4]) -> Region
     ensures { Touches direction (bit_at selected) (bit_at standing) result }
 {
-    if direction == 2 {
-        return Region {
+    match direction {
+        Direction::Ingress => Region {
+            rows: standing,
+            columns: selected,
+        },
+        Direction::Egress => Region {
             rows: selected,
             columns: standing,
-        };
+        },
     }
-    Region {
-        rows: standing,
-        columns: selected,
-    }
+}
+
+// The bits of the matrix that such a policy touches set by the rules. Policy q's sets are taken as they are stored.
+fn reset_touched(
+    memory: &mut [u64],
+    q: usize,
+    direction: Direction,
+    selected: [u64; 4],
+    standing: [u64; 4],
+)
+    requires entries_formed { EntriesFormed memory.old × (bit_at standing ≡ stands (model_in memory.old).containers) }
+    requires q_bound { (q < 128) × SetsStored memory.old q }
+    ensures { TouchedReset memory.old memory.new direction (bit_at selected) }
+{
+    let region = region_of(direction, selected, standing);
+    matrix_resets::reset(memory, q, region.rows, region.columns, standing);
 }
 
 // The policy of an accepted block comes to a slot.
@@ -43,17 +61,14 @@ pub fn put_policy(memory: &mut [u64], slot: PolicySlot, block: &[u8])
     ensures { memory.new ≡ image (change_policy (registry_in memory.old) slot.0 (policy_said block.now) (some (policy_said block.now))) }
 {
     let q = slot.0;
-    let standing = stored::containers_standing(memory);
+    let standing = stored::standing::<model::ContainerSlot>(memory);
     placing::place_policy(memory, q, block);
-    let direction = memory[store::POLICIES + store::POLICY_WORDS * q];
+    let direction = Direction::from(memory[store::POLICIES + store::POLICY_WORDS * q]);
     let selected = policy_sets::settle(memory, q, standing);
     if row_tests::is_empty(selected) {
         return;
     }
-    let region = region_of(direction, selected, standing);
-    let rows = region.rows;
-    let columns = region.columns;
-    matrix_resets::reset(memory, q, rows, columns, standing);
+    reset_touched(memory, q, direction, selected, standing);
 }
 
 // The policy at a slot goes.
@@ -63,16 +78,13 @@ pub fn take_policy(memory: &mut [u64], slot: PolicySlot)
 {
     let q = slot.0;
     let at = store::POLICIES + store::POLICY_WORDS * q;
-    let direction = memory[at];
-    let standing = stored::containers_standing(memory);
-    let selected = policy_sets::selected_row(memory, q, standing);
+    let direction = Direction::from(memory[at]);
+    let standing = stored::standing::<model::ContainerSlot>(memory);
+    let selected = policy_sets::matched(memory, store::Part::Select, q, standing);
     access::clear_slot(memory, at, store::POLICY_WORDS);
     policy_sets::settle(memory, q, standing);
     if row_tests::is_empty(selected) {
         return;
     }
-    let region = region_of(direction, selected, standing);
-    let rows = region.rows;
-    let columns = region.columns;
-    matrix_resets::reset(memory, q, rows, columns, standing);
+    reset_touched(memory, q, direction, selected, standing);
 }

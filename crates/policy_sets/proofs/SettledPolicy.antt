@@ -14,19 +14,34 @@ use Rattle.model.specs.Model.{container_slots, policy_slots, Model, selected_bit
 use Rattle.model.specs.Registry.{Registry, computed}
 use Rattle.model.proofs.Lists.{both}
 use Rattle.model.proofs.Clear.{computed-clear}
-use Rattle.store.specs.Layout.{row_count, selected_row, allowed_row}
+use Rattle.store.specs.declared.Part.{Part}
+use Rattle.store.specs.declared.Part.TheVariants.{Select, Allow}
+use Rattle.store.specs.Layout.{offset_of, row_count, selected_row, allowed_row}
 use Rattle.store.specs.Contents.{Holds}
 use Rattle.store.specs.Memory.{row_set, with_row}
 use Rattle.store.proofs.Cases.{by_eqb}
 use Rattle.store.proofs.Carried.{SameContents, holds_as, holds_by, holds_row}
-use Rattle.formed.specs.Registry.{model_in, bits_in, registry_in, stored_bit, contents_of, image, ValidEntries, EntriesFormed}
+use Rattle.formed.specs.Registry.{model_in, bits_in, set_in, registry_in, stored_bit, contents_of, image, ValidEntries, EntriesFormed}
 use Rattle.formed.proofs.Acceptable.{InTables, registry-in-tables}
 use Rattle.formed.proofs.StoredLaws.{Fit, stored-selected, stored-allowed, stored-cong}
 use Rattle.formed.proofs.Back.{image-written}
 use Rattle.formed.proofs.Reading.{entries-hold}
 use Rattle.formed.proofs.Placed.{image-entries, image-model, image-says}
 use Rattle.entries.proofs.Trials.{container-below, policy-below}
+use Rattle.sets.specs.Sets.{part_set, PartsWithin}
+use Rattle.sets.proofs.Candidates.{selects-within, allows-within, selected-set, allowed-set}
 use Rattle.policy_sets.specs.PolicySets.{settled, SetsStored}
+
+-- ---- what a part matches
+
+pub part-within : (m : List ℕ) → EntriesFormed m → (p : Part) → PartsWithin m (offset_of p)
+part-within m ok Select = selects-within m ok
+part-within m ok Allow = allows-within m ok
+
+pub part_set-is : (m : List ℕ) (q : ℕ) → q < policy_slots → (p : Part) → part_set m (stands (model_in m).containers) (offset_of p) q ≡ set_in (computed_bits (model_in m)) p q
+unfolding computed_bits
+part_set-is m q h Select = selected-set m q h
+part_set-is m q h Allow = allowed-set m q h
 
 -- ---- one row of a table made s
 

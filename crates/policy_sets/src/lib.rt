@@ -4,24 +4,18 @@
 ghost use Rattle.std.specs.Prelude.{◌≡◌, ◌<◌};
 ghost use Rattle.bitrow.specs.Bit.{bit_at};
 ghost use Rattle.model.specs.Table.{stands};
-ghost use Rattle.model.specs.Model.{selected_bit, allowed_bit};
-ghost use Rattle.formed.specs.Registry.{model_in, registry_in, image, EntriesFormed};
+ghost use Rattle.model.specs.Model.{selected_bit, computed_bits};
+ghost use Rattle.formed.specs.Registry.{model_in, set_in, registry_in, image, EntriesFormed};
 ghost use Rattle.policy_sets.specs.PolicySets.{settled};
 
-// What policy q selects of the standing containers.
-pub fn selected_row(memory: &[u64], q: usize, standing: [u64; 4]) -> [u64; 4]
-    requires { EntriesFormed memory.now × (q < 128) × (bit_at standing ≡ stands (model_in memory.now).containers) }
-    ensures { bit_at result ≡ selected_bit (model_in memory.now) q }
-{
-    sets::part_row(memory, q, store::SELECT, standing)
-}
+use store::Part;
 
-// What it allows of them.
-fn allowed_row(memory: &[u64], q: usize, standing: [u64; 4]) -> [u64; 4]
+// The standing containers that a part of policy q matches: those that the policy selects, or those that it allows.
+pub fn matched(memory: &[u64], part: Part, q: usize, standing: [u64; 4]) -> [u64; 4]
     requires { EntriesFormed memory.now × (q < 128) × (bit_at standing ≡ stands (model_in memory.now).containers) }
-    ensures { bit_at result ≡ allowed_bit (model_in memory.now) q }
+    ensures { bit_at result ≡ set_in (computed_bits (model_in memory.now)) part q }
 {
-    sets::part_row(memory, q, store::ALLOW, standing)
+    sets::part_row(memory, q, part.offset(), standing)
 }
 
 // The two sets of policy q, by the entries as they stand, stored. Gives what it selects.
@@ -29,9 +23,9 @@ pub fn settle(memory: &mut [u64], q: usize, standing: [u64; 4]) -> [u64; 4]
     requires { EntriesFormed memory.old × (q < 128) × (bit_at standing ≡ stands (model_in memory.old).containers) }
     ensures { (memory.new ≡ image (settled (registry_in memory.old) q)) × (bit_at result ≡ selected_bit (model_in memory.old) q) }
 {
-    let selected = selected_row(memory, q, standing);
-    let allowed = allowed_row(memory, q, standing);
-    access::set_row(memory, store::SELECTED_ROWS + store::SET_STEP * q, selected);
-    access::set_row(memory, store::ALLOWED_ROWS + store::SET_STEP * q, allowed);
+    let selected = matched(memory, Part::Select, q, standing);
+    let allowed = matched(memory, Part::Allow, q, standing);
+    access::set_row(memory, Part::Select.band().row(q), selected);
+    access::set_row(memory, Part::Allow.band().row(q), allowed);
     selected
 }

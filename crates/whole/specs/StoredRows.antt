@@ -8,5 +8,5 @@ use Rattle.matrix_rows.specs.declared.Gathered.{Gathered}
 use Rattle.matrix_rows.specs.Rows.{Gathers}
 
 -- row is row r of the stored bits by the rules, whatever model it is all gathered from for all that stand
-pub record StoredFrom (g : Gathered) (sel alw outs backs : List (List ℕ)) (r : ℕ) (row : List ℕ) : Type 0 where
-  pub is : {m : Model} {some : ℕ → Bool} → Gathers m some g sel alw outs backs → some ≡ stands m.containers → bit_at row ≡ stored_bit (computed_bits m) r
+pub record StoredFrom (g : Gathered) (r : ℕ) (row : List ℕ) : Type 0 where
+  pub is : {m : Model} {some : ℕ → Bool} → Gathers m some g → some ≡ stands m.containers → bit_at row ≡ stored_bit (computed_bits m) r

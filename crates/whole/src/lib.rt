@@ -7,53 +7,35 @@ ghost use Rattle.store.specs.Layout.{row_count};
 ghost use Rattle.formed.specs.Registry.{registry_in, image, EntriesFormed};
 ghost use Rattle.whole.specs.StoredRows.{StoredFrom};
 
+use matrix_rows::Gathered;
+
 // Row r of the stored bits by the rules, from what is gathered for all that stand: a row of the matrix, then by turns what a policy
 // selects and what it allows.
-pub fn row_of_bits(
-    r: usize,
-    gathered: matrix_rows::Gathered,
-    selected: &[[u64; 4]; 128],
-    allowed: &[[u64; 4]; 128],
-    outs: &[[u64; 4]; 256],
-    backs: &[[u64; 4]; 256],
-) -> [u64; 4]
+pub fn row_of_bits(r: usize, gathered: &Gathered) -> [u64; 4]
     requires { r < row_count }
-    ensures { StoredFrom gathered selected.now allowed.now outs.now backs.now r result }
+    ensures { StoredFrom gathered.now r result }
 {
     if r < store::SELECTED_ROWS {
-        return matrix_rows::row_from(r, gathered, outs, backs);
+        return matrix_rows::row_from(r, gathered);
     }
     let q = (r - store::SELECTED_ROWS) / store::SET_STEP;
     if r % store::SET_STEP == 0 {
-        return selected[q];
+        return gathered.sets.selected[q];
     }
-    allowed[q]
+    gathered.sets.allowed[q]
 }
 
 // "Rebuild sets every kept bit by the rules."
+// Kept: the call of this name in `upkeep` tests its memory and then does this: another name would be a second one for one thing.
 pub fn rebuild(memory: &mut [u64])
     requires { EntriesFormed memory.old }
     ensures { memory.new ≡ image (rebuilt (registry_in memory.old)) }
 {
-    let mut selected = [[0u64; 4]; 128];
-    let mut allowed = [[0u64; 4]; 128];
-    let mut outs = [[0u64; 4]; 256];
-    let mut backs = [[0u64; 4]; 256];
-    let standing = stored::containers_standing(memory);
-    let gathered = matrix_rows::gather(
-        memory,
-        standing,
-        128,
-        standing,
-        &mut selected,
-        &mut allowed,
-        &mut outs,
-        &mut backs,
-    );
-    let mut r = 0;
-    while r < store::ROW_COUNT {
-        let row = row_of_bits(r, gathered, &selected, &allowed, &outs, &backs);
+    let standing = stored::standing::<model::ContainerSlot>(memory);
+    let mut gathered = matrix_rows::ungathered(standing);
+    matrix_rows::gather(memory, None, standing, &mut gathered);
+    for r in 0..store::ROW_COUNT {
+        let row = row_of_bits(r, &gathered);
         access::set_row(memory, r, row);
-        r += 1;
     }
 }

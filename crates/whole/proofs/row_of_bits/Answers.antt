@@ -1,5 +1,4 @@
 -- One case for each of the three tables.
-use borrow.Author.Rules.{rules}
 use native.Mathlib.Omega.{arith}
 use mathlib.Core.Path.{◌≡◌, ◌∙◌, sym, ap}
 use Rattle.bitrow.proofs.Sets.{point}
@@ -7,34 +6,20 @@ use Rattle.model.specs.Model.{computed_bits}
 use Rattle.store.specs.Layout.{selected_band, band_index, selected_row, allowed_row}
 use Rattle.formed.specs.Registry.{stored_bit}
 use Rattle.formed.proofs.StoredLaws.{stored-matrix, stored-selected, stored-allowed}
-use Rattle.whole.proofs.row_of_bits.Statement.{statement}
-use Rattle.whole.proofs.row_of_bits.Tie as tie
+use Rattle.whole.proofs.row_of_bits.Goals as goal
 
-returns : tie.Need-returns-then-r-lt-SELECTED_ROWS
+pub returns-then-r-lt-SELECTED_ROWS : goal.returns-then-r-lt-SELECTED_ROWS
 unfolding computed_bits
-returns c = record { is = λ g e. c.row_from.ensures.is g (λ h. point e _ ∙ h) ∙ sym (stored-matrix _ _ c.if-r-lt-SELECTED_ROWS.true) }
+returns-then-r-lt-SELECTED_ROWS c = record { is = λ g e. c.row_from.ensures.is g (λ h. point e _ ∙ h) ∙ sym (stored-matrix _ _ c.if-r-lt-SELECTED_ROWS.true) }
 
-returns-2 : tie.Need-returns-then-r-eq0
+pub returns-then-r-eq0 : goal.returns-then-r-eq0
 unfolding computed_bits
-returns-2 c =
+returns-then-r-eq0 c =
     let there : c.args.r ≡ selected_row (band_index selected_band c.args.r) = omega arith in
     record { is = λ g e. g.sets.selected.row _ (omega arith) ∙ sym (ap (stored_bit _) there ∙ stored-selected _ _ (omega arith)) }
 
-returns-3 : tie.Need-returns
+pub returns : goal.returns
 unfolding computed_bits
-returns-3 c =
+returns c =
     let there : c.args.r ≡ allowed_row (band_index selected_band c.args.r) = omega arith in
     record { is = λ g e. g.sets.allowed.row _ (omega arith) ∙ sym (ap (stored_bit _) there ∙ stored-allowed _ _ (omega arith)) }
-
-pub row_of_bits_spec : {M : Type 1} → statement M
-row_of_bits_spec =
-    tie.close
-    (tie.spec
-    (λ c κs. search rules)
-    returns
-    (λ c. search rules)
-    (λ c. search rules)
-    returns-2
-    (λ c. search rules)
-    (λ c. search rules)
-    returns-3)
