@@ -1,6 +1,6 @@
 -- The rows of kinds 1 to 4, at a container that stands, are the model's definitions.
 use mathlib.Core.Path.{◌≡◌, refl, sym, ap, ap₂, ◌∙◌, fun_ext}
-use mathlib.Core.Bool.{Bool, true, false, not, ◌&&◌, beq, and-true, and-false, and_comm}
+use mathlib.Core.Bool.{Bool, true, false, not, ◌&&◌, cond, beq, and-true, and-false, and_comm}
 use mathlib.Core.List.{List}
 use Prim.Native.Nat.{ℕ}
 use native.Mathlib.Decide.{ℕ_discrete}
@@ -62,14 +62,18 @@ module _ (m : List ℕ) (a : ℕ) (h : containers_stand m a ≡ true) where
       ∙ ap (part (containers_stand m)) (fun_ext (λ c. is_false ((bits_in m).matrix c a)))
 
   -- 1.
-  pub reachable-row : zero_if (part (containers_stand m) (column_as (bits_in m) a true)) ≡ shown_at m 1 a
+  reachable-row : zero_if (part (containers_stand m) (column_as (bits_in m) a true)) ≡ shown_at m 1 a
   unfolding zero_if
   reachable-row = fun_ext (λ b. sym (at_1 m a b ∙ ap₂ (λ p q. p && (eqb b 0 && q)) h reachable-column ∙ and_comm (eqb b 0) _))
 
   -- 2.
-  pub isolated-row : zero_if (part (containers_stand m) (column_as (bits_in m) a false)) ≡ shown_at m 2 a
+  isolated-row : zero_if (part (containers_stand m) (column_as (bits_in m) a false)) ≡ shown_at m 2 a
   unfolding zero_if
   isolated-row = fun_ext (λ b. sym (at-2 m a b ∙ ap₂ (λ p q. p && (eqb b 0 && q)) h isolated-column ∙ and_comm (eqb b 0) _))
+
+  pub column-shown : (wanted : Bool) → zero_if (part (containers_stand m) (column_as (bits_in m) a wanted)) ≡ shown_at m (cond wanted 1 2) a
+  column-shown true = reachable-row
+  column-shown false = isolated-row
 
   -- a's row, read
   row_read : bit_at (row_at m a) ≡ (bits_in m).matrix a

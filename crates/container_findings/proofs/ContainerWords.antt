@@ -4,17 +4,16 @@ use mathlib.Core.Bool.{Bool, true, false, not, ◌&&◌, beq}
 use mathlib.Core.List.{List}
 use Prim.Native.Nat.{ℕ, ◌+◌, ◌*◌, ◌/◌, ◌%◌, ◌≤◌, ◌<◌}
 use borrow.Author.Tests.{not-true, not-false, eq-eqb, ne_eqb}
-use Rattle.bitrow.specs.Bit.{bit, bit_at}
+use Rattle.bitrow.specs.Bit.{bit}
 use Rattle.model.specs.Rules.{carries}
 use Rattle.model.specs.Findings.{is_system}
 use Rattle.store.specs.Layout.{row_start, row_bit, word_at, container_start}
 use Rattle.formed.specs.Words.{label_in, part_in, settings_in}
 use Rattle.formed.specs.Registry.{model_in, bits_in, EntriesFormed}
 use Rattle.formed.proofs.Reading.{matrix-in, formed-settings}
-use Rattle.entries.proofs.Trials.{container-below}
 use Rattle.entries.proofs.FormedEntries.{formed-system}
 use Rattle.entries.specs.Entries.{user_word}
-use Rattle.container_findings.specs.Rows.{containers_stand, column_as, with_user, AtContainer}
+use Rattle.container_findings.specs.Rows.{containers_stand, column_as, with_user}
 
 -- ---- a column, by the bit read
 
@@ -28,14 +27,6 @@ module _ (m : List ℕ) (c a : ℕ) (h : c < 256) (l : a < 256) (wanted : Bool) 
 
   pub column-no : not (beq r wanted) ≡ true → column_as (bits_in m) a wanted c ≡ false
   column-no q = column-bit ∙ not-true (beq r wanted) q
-
--- ---- slots
-
--- a number of the row of standing containers
-pub at-container : (m row : List ℕ) (a : ℕ) → EntriesFormed m → bit_at row ≡ containers_stand m → bit_at row a ≡ true → AtContainer m row a
-at-container m row a ok e h =
-    let t = sym (ap (λ s. s a) e) ∙ h in
-    record { formed = ok; slots = e; here = t; below = container-below m a t }
 
 -- ---- the user word, by the word read
 

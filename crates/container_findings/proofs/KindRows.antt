@@ -1,4 +1,4 @@
--- The definition of each kind, as rows: of no kind, of an empty slot, of one number.
+-- The definition of each kind, as rows: of an empty slot, of one number.
 use mathlib.Core.Path.{◌≡◌, sym, ap, ◌∙◌, fun_ext}
 use mathlib.Core.Bool.{Bool, true, false, ◌&&◌, ◌||◌, or-false, and-false}
 use mathlib.Core.List.{List}
@@ -37,7 +37,7 @@ module _ (m : List ℕ) (a b : ℕ) where
   unfolding shown_at shown
   at-4 = or-false _
 
--- ---- rows that are empty by the slot or by the kind
+-- ---- rows that are empty by the slot
 
 module _ (m : List ℕ) (k a : ℕ) where
   -- no container stands at a
@@ -47,11 +47,6 @@ module _ (m : List ℕ) (k a : ℕ) where
     where
       none4 : (p q r s : Bool) → ((p && false) || ((q && false) || ((r && false) || ((s && false) || false)))) ≡ false
       none4 p q r s = rw (and-false p, and-false q, and-false r, and-false s)
-
-  -- k is no kind
-  pub no_kind : (k ≡ 1 → ⊥) → (k ≡ 2 → ⊥) → (k ≡ 3 → ⊥) → (k ≡ 4 → ⊥) → (k ≡ 5 → ⊥) → (k ≡ 6 → ⊥) → (k ≡ 7 → ⊥) → nothing ≡ shown_at m k a
-  unfolding nothing shown_at shown
-  no_kind t u v w x y z = fun_ext (λ b. rw (ne_eqb k 1 t, ne_eqb k 2 u, ne_eqb k 3 v, ne_eqb k 4 w, ne_eqb k 5 x, ne_eqb k 6 y, ne_eqb k 7 z))
 
 -- ---- rows of one number
 

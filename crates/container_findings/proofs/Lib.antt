@@ -1,6 +1,6 @@
 -- Laws of `container_findings`.
 pub mod Standing
 pub mod KindRows
-mod Passed
+pub mod Gathered
 mod ContainerWords
 mod ContainerRows

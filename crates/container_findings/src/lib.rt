@@ -1,22 +1,25 @@
 // The findings over containers: kinds 1 to 4.
 #![tactic(auto)]
 
-ghost use Rattle.std.specs.Prelude.{◌≡◌, ◌<◌};
+ghost use Rattle.std.specs.Prelude.{◌≡◌, ◌<◌, cond};
 ghost use Rattle.bitrow.specs.Bit.{bit_at};
 ghost use Rattle.bitrow.specs.Set.{meet, part};
+ghost use Rattle.model.specs.Kinds.{kind_number};
 ghost use Rattle.store.specs.Layout.{Whole};
 ghost use Rattle.formed.specs.Registry.{bits_in, EntriesFormed};
 ghost use Rattle.container_findings.specs.Rows.{shown_at, containers_stand, zero_if, column_as, with_user, AtContainer};
 
-use bitrow::Found;
+use model::Kind;
+use row_members::Members;
 
 fn zero_if(t: bool) -> [u64; 4]
     ensures { bit_at result ≡ zero_if t }
 {
     if t {
-        return row_sets::with(row_sets::none(), 0);
+        row_sets::with(row_sets::none(), 0)
+    } else {
+        row_sets::none()
     }
-    row_sets::none()
 }
 
 // Whether the bit to a is as wanted in the rows of all containers of a set.
@@ -24,34 +27,23 @@ fn column_is(memory: &[u64], set: [u64; 4], a: usize, wanted: bool) -> bool
     requires { Whole memory.now × (a < 256) }
     ensures { result ≡ part (bit_at set) (column_as (bits_in memory.now) a wanted) }
 {
-    let mut from = 0;
-    loop {
-        let found = row_reads::next_from(set, from);
-        let Found::At(c) = found else {
-            return true;
-        };
-        from = c + 1;
+    for c in Members::of(set) {
         let word = memory[store::ROWS + store::ROW_WORDS * c + a / 64];
         if bitrow::bit_of(word, a) != wanted {
             return false;
         }
     }
+    true
 }
 
-// 1. All reachable.
-fn all_reachable(memory: &[u64], containers: [u64; 4], a: usize) -> [u64; 4]
+// 1. All reachable, where the bit to a is wanted of every container. 2. All isolated, where it is wanted of none.
+// Kept: `AtContainer` over a row and a slot. It speaks of the memory that is lent, so a struct of the two would hold that as a
+// ghost, and each call would show beside it that it is lent the same memory.
+fn column_row(memory: &[u64], containers: [u64; 4], a: usize, wanted: bool) -> [u64; 4]
     requires { AtContainer memory.now containers a }
-    ensures { bit_at result ≡ shown_at memory.now 1 a }
+    ensures { bit_at result ≡ shown_at memory.now (cond wanted 1 2) a }
 {
-    zero_if(column_is(memory, containers, a, true))
-}
-
-// 2. All isolated.
-fn all_isolated(memory: &[u64], containers: [u64; 4], a: usize) -> [u64; 4]
-    requires { AtContainer memory.now containers a }
-    ensures { bit_at result ≡ shown_at memory.now 2 a }
-{
-    zero_if(column_is(memory, containers, a, false))
+    zero_if(column_is(memory, containers, a, wanted))
 }
 
 // Those of a set whose word under the user key is this one.
@@ -61,13 +53,7 @@ fn same_user(memory: &[u64], set: [u64; 4], word: u64) -> [u64; 4]
 {
     let key = memory[0];
     let mut chosen = row_sets::none();
-    let mut from = 0;
-    loop {
-        let found = row_reads::next_from(set, from);
-        let Found::At(c) = found else {
-            return chosen;
-        };
-        from = c + 1;
+    for c in Members::of(set) {
         if entry_labels::word_under(memory, store::CONTAINERS + store::CONTAINER_WORDS * c, key)
             == word
         {
@@ -75,6 +61,7 @@ fn same_user(memory: &[u64], set: [u64; 4], word: u64) -> [u64; 4]
             chosen = next;
         }
     }
+    chosen
 }
 
 // 3. User cross. A container without the user key is a stranger to all others.
@@ -112,25 +99,19 @@ fn system_isolation(memory: &[u64], containers: [u64; 4], a: usize) -> [u64; 4]
     row_sets::except(row_sets::without(containers, a), reached)
 }
 
-// The findings of kind 1 to 4 at a, as the row of all b; of kind 0 there are none.
-pub fn container_row(memory: &[u64], containers: [u64; 4], kind: usize, a: usize) -> [u64; 4]
-    requires { EntriesFormed memory.now × (bit_at containers ≡ containers_stand memory.now) × (a < 256) × (kind < 5) }
-    ensures { bit_at result ≡ shown_at memory.now kind a }
+// The findings of a kind over containers at a, as the row of all b.
+pub fn container_row(memory: &[u64], containers: [u64; 4], kind: Kind, a: usize) -> [u64; 4]
+    requires { EntriesFormed memory.now × (bit_at containers ≡ containers_stand memory.now) × (a < 256) × (kind_number kind < 5) }
+    ensures { bit_at result ≡ shown_at memory.now (kind_number kind) a }
 {
     if !row_sets::has(containers, a) {
         return row_sets::none();
     }
-    if kind == 1 {
-        return all_reachable(memory, containers, a);
+    match kind {
+        Kind::AllReachable => column_row(memory, containers, a, true),
+        Kind::AllIsolated => column_row(memory, containers, a, false),
+        Kind::UserCross => user_cross(memory, containers, a),
+        Kind::SystemIsolation => system_isolation(memory, containers, a),
+        Kind::Shadow | Kind::Conflict | Kind::Irrelevance => unreachable!(),
     }
-    if kind == 2 {
-        return all_isolated(memory, containers, a);
-    }
-    if kind == 3 {
-        return user_cross(memory, containers, a);
-    }
-    if kind == 4 {
-        return system_isolation(memory, containers, a);
-    }
-    row_sets::none()
 }

@@ -3,22 +3,44 @@
 
 ghost use Rattle.std.specs.Prelude.{◌≡◌, true, ◌<◌};
 ghost use Rattle.bitrow.specs.Bit.{bit_at};
+ghost use Rattle.model.specs.Kinds.{kind_number};
+ghost use Rattle.store.specs.Layout.{Whole};
 ghost use Rattle.formed.specs.Registry.{well_formed};
-ghost use Rattle.container_findings.specs.Rows.{shown_at, containers_stand, policies_stand};
+ghost use Rattle.container_findings.specs.Rows.{shown_at};
+ghost use Rattle.finding_rows.specs.Standing.{StandingIn};
+
+use model::Kind;
+
+// The standing slots of both tables, as rows: worked out once for a listing.
+#[derive(Clone, Copy)]
+pub struct Standing {
+    pub containers: [u64; 4],
+    pub policies: [u64; 4],
+}
+
+impl Standing {
+    pub fn of(memory: &[u64]) -> Standing
+        requires { Whole memory.now }
+        ensures { StandingIn memory.now result }
+    {
+        Standing {
+            containers: stored::standing::<model::ContainerSlot>(memory),
+            policies: stored::standing::<model::PolicySlot>(memory),
+        }
+    }
+}
 
 // The findings of one kind at a, as the row of all b.
-pub fn finding_row(
-    memory: &[u64],
-    containers: [u64; 4],
-    policies: [u64; 4],
-    kind: usize,
-    a: usize,
-) -> [u64; 4]
-    requires { (well_formed memory.now ≡ true) × (bit_at containers ≡ containers_stand memory.now) × (bit_at policies ≡ policies_stand memory.now) × (a < 256) }
-    ensures { bit_at result ≡ shown_at memory.now kind a }
+pub fn finding_row(memory: &[u64], standing: &Standing, kind: Kind, a: usize) -> [u64; 4]
+    requires { (well_formed memory.now ≡ true) × StandingIn memory.now standing.now × (a < 256) }
+    ensures { bit_at result ≡ shown_at memory.now (kind_number kind) a }
 {
-    if kind < 5 {
-        return container_findings::container_row(memory, containers, kind, a);
+    match kind {
+        Kind::AllReachable | Kind::AllIsolated | Kind::UserCross | Kind::SystemIsolation => {
+            container_findings::container_row(memory, standing.containers, kind, a)
+        }
+        Kind::Shadow | Kind::Conflict | Kind::Irrelevance => {
+            policy_findings::policy_row(memory, standing.policies, kind, a)
+        }
     }
-    policy_findings::policy_row(memory, policies, kind, a)
 }

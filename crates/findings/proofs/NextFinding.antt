@@ -33,6 +33,16 @@ next_in m = next_after (model_in m) (bits_in m)
 pub next-sized : (m : List ℕ) (p : Place) (g : Finding) → next_in m p ≡ some g → SmallPlace (place_of g)
 next-sized m p g e = sized-there (shown_at m) (shown-inside m) g (ap (λ t. t g) (there-shown m) ∙ (is-shown (model_in m) (bits_in m) p g e).is)
 
+-- where a walk from p has come to
+pub walk-sized : (m : List ℕ) (n : ℕ) (p : Place) → SmallPlace p → SmallPlace (moved p (walk (next_in m) n p))
+walk-sized m zero p s = s
+walk-sized m (suc n) p s = pick (next_in m p) refl (λ g e. walk-sized m n (place_of g) (next-sized m p g e))
+  where
+    pick : (o : Option Finding) → next_in m p ≡ o → ((g : Finding) → next_in m p ≡ some g → SmallPlace (moved (place_of g) (walk (next_in m) n (place_of g))))
+        → SmallPlace (moved p (elim o [ none ↦ [] | some g ↦ g ∷ walk (next_in m) n (place_of g) ]))
+    pick none e f = s
+    pick (some g) e f = f g e
+
 -- ---- the walk from the place p to the next finding
 
 abbrev pub ComeIn : List ℕ → Place → ℕ → ℕ → ℕ → Type 0

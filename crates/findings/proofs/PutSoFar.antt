@@ -2,22 +2,27 @@
 use mathlib.Core.Path.{◌≡◌, refl, sym, ap, ◌∙◌}
 use mathlib.Core.Bool.{Bool}
 use mathlib.Core.List.{List, [], ◌∷◌, ◌++◌, map, map-append}
-use mathlib.Core.Option.{Option, none, some}
 use Prim.Native.Nat.{ℕ, zero, suc, ◌+◌, ◌-◌, ◌/◌, ◌%◌, ◌≤◌, ◌<◌}
+use native.Mathlib.Decide.{dec_lt}
 use native.Mathlib.Omega.{arith}
-use lib.ListN.{length, take, drop, get_or, length-map, get_or-append}
+use lib.ListN.{length, take, drop, get_or, length-map, length-drop, get_or-append}
+use mathlib.Core.Logic.{◌⊎◌, inl, inr}
+use borrow.Rule.Slice.PartMut.{put_mid}
 use Rattle.bitrow.specs.Set.{under, at_least, meet}
 use Rattle.buffer.specs.Buffer.{Puts}
 use Rattle.buffer.proofs.BufferLaws.{puts_none, puts-size, puts-as, puts_then}
 use Rattle.model.specs.declared.Finding.{Finding}
-use Rattle.model.specs.Findings.{Place, finding, place_of, walk, moved, finding_code}
-use Rattle.findings.specs.declared.Cursor.{Cursor}
-use Rattle.findings.specs.declared.Step.TheVariants.{Found, Done}
+use Rattle.model.specs.Findings.{Place, place_of, walk, moved, finding_code}
+use Rattle.model.specs.Kinds.{kind_number}
 use Rattle.row_listing.specs.Listing.{row_findings}
-use Rattle.findings.specs.Steps.{place_at, cursor_place, next_step}
+use Rattle.row_listing.proofs.Putting.{rest-lent, puts-rest}
+use Rattle.findings.specs.declared.Row.{Row}
+use Rattle.findings.specs.declared.Rows.{Rows}
+use Rattle.findings.specs.RowSteps.{HereIs, AboveIs}
+use Rattle.findings.specs.Steps.{place_at}
 use Rattle.container_findings.specs.Rows.{shown_at}
 use Rattle.findings.proofs.Walk.{rank, SmallPlace}
-use Rattle.findings.proofs.NextFinding.{next_in, ComeIn, reached-start, WalkOver, walked_none, walked_then, walked_row, walked-kind, walked_all}
+use Rattle.findings.proofs.NextFinding.{next_in, walk-sized, ComeIn, reached-start, WalkOver, walked_none, walked_then, walked_row, walked-kind, walked_all}
 
 -- ---- the number of a place
 
@@ -73,75 +78,79 @@ module _ (m : List ℕ) {p : Place} {d : List ℕ} where
     count : length g.found ≡ at
     count = omega (arith, g.puts.stops, length-map g.found finding_code)
 
-    pub listed-reached : at < length e → ComeIn m (moved p g.found) k a from
+    listed-reached : at < length e → ComeIn m (moved p g.found) k a from
     listed-reached h = g.walked.reached (omega (arith, count, listed-size))
 
-    -- the findings of a row, as many as there is room for
+    -- the findings of a row, as many as there is room for in the rest of the buffer
     pub listed-row : a < 256 → at < length e → {row cut tail : ℕ → Bool} → row ≡ shown_at m k a → cut ≡ meet row tail → tail ≡ meet (at_least from) (under 256)
-        → {f : List ℕ} {stop : ℕ} → Puts e at (take (length e - at) (map finding_code (row_findings k a cut))) f stop → PutSoFar m p d f k (a + 1) 0 stop
-    listed-row h l {cut = cut} er ec et q =
-        let n = length d - length g.found in
+        → {part : List ℕ} {n : ℕ} → Puts (take (length e - at) (drop at e)) 0 (take (length (take (length e - at) (drop at e))) (map finding_code (row_findings k a cut))) part n
+        → PutSoFar m p d (put_mid at (length e - at) e part) k (a + 1) 0 (at + n)
+    listed-row h l {cut = cut} er ec et {part = part} {n = i} q =
+        let free = length d - length g.found in
         let row = row_findings k a cut in
-        let room : length e - at ≡ n = omega (arith, listed-size, count) in
-        let put = puts-as q (ap (λ j. take j (map finding_code row)) room ∙ take-map finding_code n row) in
+        let put : Puts e at (map finding_code (take free row)) (put_mid at (length e - at) e part) (at + i) =
+        puts-as (puts-rest at listed-room (rw (rest-lent e at) at q)) (ap (λ j. take j (map finding_code row)) room ∙ take-map finding_code free row) in
         record {
-          found = g.found ++ take n row;
-          puts = puts-as (puts_then g.puts put) (sym (map-append finding_code g.found (take n row)));
-          walked = walked_then m g.walked (walked_row m k a h er ec et g.walked.sized n (listed-reached l));
+          found = g.found ++ take free row;
+          puts = puts-as (puts_then g.puts put) (sym (map-append finding_code g.found (take free row)));
+          walked = walked_then m g.walked (walked_row m k a h er ec et g.walked.sized free (listed-reached l));
         }
+      where
+        room : length (drop at e) ≡ length d - length g.found
+        room = omega (arith, length-drop at e, listed-size, count)
 
-    pub listed-kind : ((0 < k) → 256 ≤ a) → PutSoFar m p d e (k + 1) 0 0 at
+    listed-kind : ((0 < k) → 256 ≤ a) → PutSoFar m p d e (k + 1) 0 0 at
     listed-kind h = record { found = g.found; puts = g.puts; walked = walked-kind m g.walked h }
 
-    -- the last finding put
-    listed-last : 0 < at → get_or e (at - 1) 0 ≡ rank (moved p g.found).kind (moved p g.found).a (moved p g.found).b
-    listed-last h =
-        ap (λ l. get_or l (at - 1) 0) g.puts.text
-        ∙ get_or-append (map finding_code g.found) (drop at d) 0 (at - 1) (omega (arith, count, length-map g.found finding_code))
-        ∙ last_code p g.found (at - 1) (omega (arith, count))
-
-    pub listed_small : 0 < at → get_or e (at - 1) 0 < 281474976710656
-    listed_small h = omega (arith, listed-last h, rank-small (moved p g.found) g.walked.sized)
-
     -- the buffer is full, or no kind is left
-    module _ (end : k < 8 → length e ≤ at) where
-      all : walk (next_in m) (length d) p ≡ g.found
-      all = walked_all m g.walked (λ h. omega (arith, end h, count, listed-size))
+    listed-all : (k < 8 → length e ≤ at) → Puts d 0 (map finding_code (walk (next_in m) (length d) p)) e at
+    listed-all end = puts-as g.puts (ap (map finding_code) (sym (walked_all m g.walked (λ h. omega (arith, end h, count, listed-size)))))
 
-      pub listed-puts : Puts d 0 (map finding_code (walk (next_in m) (length d) p)) e at
-      listed-puts = puts-as g.puts (ap (map finding_code) (sym all))
+    pub listed-full : length e ≤ at → Puts d 0 (map finding_code (walk (next_in m) (length d) p)) e at
+    listed-full h = listed-all (λ l. h)
 
-      -- none was found
-      pub listed-still : at ≡ 0 → p ≡ moved p (walk (next_in m) (length d) p)
-      listed-still z = sym (ap (moved p) all ∙ still g.found (count ∙ z))
-        where
-          still : (l : List Finding) → length l ≡ 0 → moved p l ≡ p
-          still [] e = refl
-          still (x ∷ l) e = absurd (omega arith)
+  -- ---- by the rows, one after another
 
-      pub listed-moved : 0 < at → {q : Place} → q ≡ place_at (get_or e (at - 1) 0) → q ≡ moved p (walk (next_in m) (length d) p)
-      listed-moved h r = r ∙ ap place_at (listed-last h) ∙ rank-place (moved p g.found) g.walked.sized ∙ ap (moved p) (sym all)
+  module _ {e : List ℕ} {s : Rows} {at : ℕ} (g : PutSoFar m p d e s.kind s.slot s.from at) where
+    -- the walk has come to the next row
+    pub listed-come : {r : Row} → HereIs s r ⊎ AboveIs s r → PutSoFar m p d e (kind_number r.kind) r.slot r.from at
+    listed-come (inl h) = rw (h.kind, h.slot, h.from) g
+    listed-come (inr h) = rw (h.kind, h.slot, h.from) (listed-kind g h.past)
 
--- ---- a listing of one
+    -- no row is left
+    pub listed-end : (7 ≤ s.kind) × (s.kind < 8 → 256 ≤ s.slot) → Puts d 0 (map finding_code (walk (next_in m) (length d) p)) e at
+    listed-end h = go (dec_lt s.kind 8)
+      where
+        go : Dec (s.kind < 8) → Puts d 0 (map finding_code (walk (next_in m) (length d) p)) e at
+        go (yes l) = listed-all (listed-kind g (λ k. h.1 l)) (λ k. absurd (omega (arith, h.0)))
+        go (no l) = listed-all g (λ k. absurd (l k))
 
-module _ (next : Place → Option Finding) (p : Place) {d e : List ℕ} {count : ℕ} (q : Puts d 0 (map finding_code (walk next 1 p)) e count) where
-  -- how many there are, by the next one
-  size : {l : List Finding} → walk next 1 p ≡ l → count ≡ length l
-  size {l} w = omega (arith, q.stops, length-map (walk next 1 p) finding_code, ap length w)
+-- ---- what was put, all of it
 
-  pub one_none : count ≡ 0 → Done ≡ next_step (next p)
-  one_none z = go (next p) refl
+module _ (m : List ℕ) (n : ℕ) (p : Place) (s : SmallPlace p) {d e : List ℕ} {at : ℕ} (q : Puts d 0 (map finding_code (walk (next_in m) n p)) e at) where
+  abbrev all : List Finding
+  all = walk (next_in m) n p
+
+  size : length all ≡ at
+  size = omega (arith, q.stops, length-map all finding_code)
+
+  -- the last finding put
+  put-last : 0 < at → get_or e (at - 1) 0 ≡ rank (moved p all).kind (moved p all).a (moved p all).b
+  put-last h =
+      ap (λ t. get_or t (at - 1) 0) q.text
+      ∙ get_or-append (map finding_code all) (drop at d) 0 (at - 1) (omega (arith, size, length-map all finding_code))
+      ∙ last_code p all (at - 1) (omega (arith, size))
+
+  pub put_small : 0 < at → get_or e (at - 1) 0 < 281474976710656
+  put_small h = omega (arith, put-last h, rank-small (moved p all) (walk-sized m n p s))
+
+  pub put-moved : 0 < at → {c : Place} → c ≡ place_at (get_or e (at - 1) 0) → c ≡ moved p all
+  put-moved h r = r ∙ ap place_at (put-last h) ∙ rank-place (moved p all) (walk-sized m n p s)
+
+  -- none was found
+  pub put-still : at ≡ 0 → p ≡ moved p all
+  put-still z = sym (still all (size ∙ z))
     where
-      go : (o : Option Finding) → next p ≡ o → Done ≡ next_step o
-      go none e = refl
-      go (some g) e = absurd (omega (arith, size {l = g ∷ []} (rw (e, walk))))
-
-  pub one_found : (count ≡ 0 → ⊥) → {c : Cursor} → cursor_place c ≡ moved p (walk next 1 p) → Found (finding c.kind c.a c.b) c ≡ next_step (next p)
-  one_found n {c} m = go (next p) refl
-    where
-      go : (o : Option Finding) → next p ≡ o → Found (finding c.kind c.a c.b) c ≡ next_step o
-      go none e = absurd (n (size {l = []} (rw (e, walk))))
-      go (some g) e =
-          let w : walk next 1 p ≡ g ∷ [] = rw (e, walk) in
-          let r : cursor_place c ≡ place_of g = m ∙ ap (moved p) w in
-          ap (λ (s : Place). Found (finding s.kind s.a s.b) (record { kind = s.kind; a = s.a; b = s.b })) r
+      still : (l : List Finding) → length l ≡ 0 → moved p l ≡ p
+      still [] e = refl
+      still (x ∷ l) e = absurd (omega arith)

@@ -1,2 +1,3 @@
 -- What the contracts of `findings` cite.
 pub mod Steps
+pub mod RowSteps

@@ -1,11 +1,9 @@
 -- The answer to a cursor: the next finding and the cursor moved to it, or none.
-use Rattle.std.proofs.Math.Option.{Option, none, some}
-use Rattle.std.specs.Prelude.{ℕ, ◌/◌, ◌%◌}
+use Rattle.std.proofs.Math.Option as model
+use Rattle.std.specs.Prelude.{ℕ, ◌/◌, ◌%◌, Option, Some, None}
 use Rattle.model.specs.declared.Finding.{Finding}
 use Rattle.model.specs.Findings.{Place}
 use Rattle.findings.specs.declared.Cursor.{Cursor}
-use Rattle.findings.specs.declared.Step.{Step}
-use Rattle.findings.specs.declared.Step.TheVariants.{Found, Done}
 
 abbrev pub place_from : ℕ → ℕ → ℕ → Place
 place_from k a b = record { kind = k; a = a; b = b }
@@ -23,9 +21,9 @@ abbrev pub moved_to : Finding → Cursor
 moved_to g = record { kind = g.kind; a = g.a; b = g.b }
 
 -- "gives the first finding after them in the order, or says there is none": the finding is the place to go on from
-abbrev pub next_step : Option Finding → Step
-next_step none = Done
-next_step (some g) = Found g (moved_to g)
+abbrev pub next_step : model.Option Finding → Option (Finding × Cursor)
+next_step model.none = None
+next_step (model.some g) = Some (g, moved_to g)
 
 -- "The start is 0 0 0."
 abbrev pub start_cursor : Cursor

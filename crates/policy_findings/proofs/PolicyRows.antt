@@ -9,18 +9,31 @@ use lib.Dec.{eqb, ltb}
 use Rattle.bitrow.specs.Set.{nothing, meet, has_some}
 use Rattle.bitrow.proofs.Sets.{meet-at}
 use Rattle.bitrow.proofs.Tests.{has_some-clear, has_some-absent}
+use Rattle.model.specs.declared.Kind.{Kind}
+use Rattle.model.specs.declared.Kind.TheVariants.{AllReachable, AllIsolated, UserCross, SystemIsolation, Shadow, Conflict, Irrelevance}
+use Rattle.model.specs.Kinds.{kind_number}
 use Rattle.model.specs.Findings.{shadow, conflict, needless, irrelevance}
 use Rattle.model.specs.Findings as model
 use Rattle.formed.specs.Registry.{model_in, bits_in, well_formed}
 use Rattle.store.proofs.Cases.{by_eqb}
 use Rattle.container_findings.specs.Rows.{shown_at, policies_stand}
 use Rattle.policy_pairs.specs.Comparisons.{comparison}
-use Rattle.container_findings.proofs.KindRows.{no_kind, of-kind}
+use Rattle.container_findings.proofs.KindRows.{of-kind}
 use Rattle.policy_findings.proofs.PolicyKinds.{at_5, at-6, at_7}
 use Rattle.policy_pairs.proofs.SetTests.{some-selected, some-allowed, connected-is, conflict-is}
 
 meet-none : (s t : ℕ → Bool) → has_some s ≡ false → has_some (meet s t) ≡ false
 meet-none s t e = has_some-clear (meet s t) (λ j h. meet-at s t j ∙ ap (λ x. x && t j) (has_some-absent s e j h))
+
+-- every kind but irrelevance is below number 7
+pub not-irrelevance : (kind : Kind) → (kind ≡ Irrelevance → ⊥) → kind_number kind < 7
+not-irrelevance AllReachable n = omega arith
+not-irrelevance AllIsolated n = omega arith
+not-irrelevance UserCross n = omega arith
+not-irrelevance SystemIsolation n = omega arith
+not-irrelevance Shadow n = omega arith
+not-irrelevance Conflict n = omega arith
+not-irrelevance Irrelevance n = absurd (n refl)
 
 -- ---- rows
 
@@ -65,11 +78,10 @@ module _ (m : List ℕ) (ok : well_formed m ≡ true) (a : ℕ) (h : policies_st
   unfolding needless irrelevance
   needless-row = fun_ext (λ b. sym (at_7 m a b ∙ rw (h, some-selected m ok a, some-allowed m ok a)))
 
-  -- of no kind but 7 is there any, where a set of a is empty
-  pub compared-none : (k : ℕ) → 5 ≤ k → (k ≡ 7 → ⊥) → (has_some ((bits_in m).selected a) && has_some ((bits_in m).allowed a)) ≡ false → nothing ≡ shown_at m k a
-  compared-none k l n e = go (ℕ_discrete k 5) (ℕ_discrete k 6)
+  -- neither shadow nor conflict, where a set of a is empty
+  pub compared-none : (k : ℕ) → 5 ≤ k → k < 7 → (has_some ((bits_in m).selected a) && has_some ((bits_in m).allowed a)) ≡ false → nothing ≡ shown_at m k a
+  compared-none k l h e = go (ℕ_discrete k 5)
     where
-      go : Dec (k ≡ 5) → Dec (k ≡ 6) → nothing ≡ shown_at m k a
-      go (yes p) d = of-kind m 5 k a (shadow-none e) p
-      go (no p) (yes q) = of-kind m 6 k a (conflict-none e) q
-      go (no p) (no q) = no_kind m k a (λ z. omega arith) (λ z. omega arith) (λ z. omega arith) (λ z. omega arith) p q n
+      go : Dec (k ≡ 5) → nothing ≡ shown_at m k a
+      go (yes p) = of-kind m 5 k a (shadow-none e) p
+      go (no p) = of-kind m 6 k a (conflict-none e) (omega arith)

@@ -1,13 +1,27 @@
 -- What kind 5, or else 6, says of two policies.
-use mathlib.Core.Path.{◌≡◌, ap, ◌∙◌}
+use mathlib.Core.Path.{◌≡◌, refl, ap, ◌∙◌}
 use mathlib.Core.Bool.{Bool, true, false, not, ◌&&◌, cond, and-false}
 use mathlib.Core.List.{List}
 use Prim.Native.Nat.{ℕ, ◌≤◌}
+use native.Mathlib.Omega.{arith}
 use lib.Dec.{eqb, ltb}
 use borrow.Author.Tests.{eq-eqb, ne_eqb, le-ltb}
+use Rattle.model.specs.declared.Kind.{Kind}
+use Rattle.model.specs.declared.Kind.TheVariants.{AllReachable, AllIsolated, UserCross, SystemIsolation, Shadow, Conflict, Irrelevance}
+use Rattle.model.specs.Kinds.{kind_number}
 use Rattle.model.specs.Findings.{one_direction, shadow, conflict}
 use Rattle.formed.specs.Registry.{model_in, bits_in}
 use Rattle.policy_pairs.specs.Comparisons.{comparison}
+
+-- no kind but shadow is number 5
+pub not-shadow : (kind : Kind) → (kind ≡ Shadow → ⊥) → kind_number kind ≡ 5 → ⊥
+not-shadow AllReachable n e = omega arith
+not-shadow AllIsolated n e = omega arith
+not-shadow UserCross n e = omega arith
+not-shadow SystemIsolation n e = omega arith
+not-shadow Shadow n e = n refl
+not-shadow Conflict n e = omega arith
+not-shadow Irrelevance n e = omega arith
 
 module _ (k : ℕ) (m : List ℕ) (a b : ℕ) where
   abbrev kind_said : Bool → Bool

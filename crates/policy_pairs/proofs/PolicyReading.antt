@@ -7,7 +7,7 @@ use native.Mathlib.Decide.{ℕ_discrete}
 use native.Mathlib.Omega.{arith}
 use lib.Dec.{eqb, ltb}
 use borrow.Author.Tests.{eqb-false, not-true, eq-eqb, ne_eqb}
-use Rattle.block.specs.Entry.{ingress, egress}
+use Rattle.block.specs.declared.Direction.TheVariants.{Ingress as ingress, Egress as egress}
 use Rattle.block.specs.Reader.{direction_of}
 use Rattle.bitrow.specs.Bit.{bit_at}
 use Rattle.model.specs.Table.{on}

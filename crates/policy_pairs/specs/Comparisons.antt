@@ -4,6 +4,7 @@ use Rattle.bitrow.specs.Bit.{bit_at}
 use Rattle.bitrow.specs.Set.{has_some}
 use Rattle.model.specs.Findings.{shadow, conflict}
 use Rattle.formed.specs.Registry.{model_in, bits_in, EntriesFormed, well_formed}
+use Rattle.policy_pairs.specs.declared.Compared.{Compared}
 use Rattle.container_findings.specs.Rows.{policies_stand}
 
 -- what kind 5, or else 6, says of two policies
@@ -16,11 +17,11 @@ pub record AtPolicy (m : List ℕ) (a : ℕ) : Type 0 where
   pub here : policies_stand m a ≡ true
   pub below : a < 128
 
--- what policy a of a well-formed memory, whose sets are of standing containers, is compared by: its stored sets, neither of them empty
-pub record Compared (m who whom : List ℕ) (a : ℕ) : Type 0 where
+-- what a policy of a well-formed memory, whose sets are of standing containers, is compared by: its stored sets, neither of them empty
+pub record ComparedIn (m : List ℕ) (p : Compared) : Type 0 where
   pub formed : well_formed m ≡ true
-  pub at : AtPolicy m a
-  pub selected : bit_at who ≡ (bits_in m).selected a
-  pub allowed : bit_at whom ≡ (bits_in m).allowed a
-  pub selects_some : has_some (bit_at who) ≡ true
-  pub allows_some : has_some (bit_at whom) ≡ true
+  pub at : AtPolicy m p.slot
+  pub selected : bit_at p.who ≡ (bits_in m).selected p.slot
+  pub allowed : bit_at p.whom ≡ (bits_in m).allowed p.slot
+  pub selects_some : has_some (bit_at p.who) ≡ true
+  pub allows_some : has_some (bit_at p.whom) ≡ true

@@ -2,9 +2,21 @@
 #![tactic(auto)]
 
 ghost use Rattle.std.specs.Prelude.{◌≡◌};
+ghost use Rattle.model.specs.Kinds.{kind_number};
 ghost use Rattle.model.specs.Findings.{one_direction, shadow, conflict};
 ghost use Rattle.formed.specs.Registry.{model_in, bits_in};
-ghost use Rattle.policy_pairs.specs.Comparisons.{comparison, AtPolicy, Compared};
+ghost use Rattle.policy_pairs.specs.Comparisons.{comparison, AtPolicy, ComparedIn};
+
+use model::Kind;
+use store::Part;
+
+// A policy that others are compared with: its slot, whom it selects and whom it allows.
+#[derive(Clone, Copy)]
+pub struct Compared {
+    pub slot: usize,
+    pub who: [u64; 4],
+    pub whom: [u64; 4],
+}
 
 // Whether two policies are of one direction.
 fn one_direction(memory: &[u64], a: usize, b: usize) -> bool
@@ -15,56 +27,47 @@ fn one_direction(memory: &[u64], a: usize, b: usize) -> bool
         == memory[store::POLICIES + store::POLICY_WORDS * a]
 }
 
-// Whether a lies in b's shadow. Neither of a's sets is empty, so its connections lie among b's if its sets are parts of b's.
-fn shadow_at(memory: &[u64], a: usize, b: usize, who: [u64; 4], whom: [u64; 4]) -> bool
-    requires { Compared memory.now who whom a × AtPolicy memory.now b }
-    ensures { result ≡ shadow (model_in memory.now) (bits_in memory.now) a b }
+// Whether a policy lies in b's shadow. Neither of its sets is empty, so its connections lie among b's if its sets are parts of b's.
+fn shadow_at(memory: &[u64], own: &Compared, b: usize) -> bool
+    requires { ComparedIn memory.now own.now × AtPolicy memory.now b }
+    ensures { result ≡ shadow (model_in memory.now) (bits_in memory.now) own.now.slot b }
 {
-    let one_way = one_direction(memory, a, b);
-    let other_who = stored::stored_selected(memory, b);
-    let other_whom = stored::stored_allowed(memory, b);
-    if !row_tests::part_of(who, other_who) {
+    let one_way = one_direction(memory, own.slot, b);
+    let who = stored::stored_set(memory, Part::Select, b);
+    let whom = stored::stored_set(memory, Part::Allow, b);
+    if !row_tests::part_of(own.who, who) {
         return false;
     }
-    let under = row_tests::part_of(whom, other_whom);
-    let over = row_tests::part_of(other_who, who) & row_tests::part_of(other_whom, whom);
-    (a != b) & (one_way & (under & (!over | (b < a))))
+    let under = row_tests::part_of(own.whom, whom);
+    let over = row_tests::part_of(who, own.who) & row_tests::part_of(whom, own.whom);
+    (own.slot != b) & (one_way & (under & (!over | (b < own.slot))))
 }
 
-// Whether a conflicts with b, above it. a allows something.
-fn conflict_at(memory: &[u64], a: usize, b: usize, who: [u64; 4], whom: [u64; 4]) -> bool
-    requires { Compared memory.now who whom a × AtPolicy memory.now b }
-    ensures { result ≡ conflict (model_in memory.now) (bits_in memory.now) a b }
+// Whether a policy conflicts with b, above it. It allows something.
+fn conflict_at(memory: &[u64], own: &Compared, b: usize) -> bool
+    requires { ComparedIn memory.now own.now × AtPolicy memory.now b }
+    ensures { result ≡ conflict (model_in memory.now) (bits_in memory.now) own.now.slot b }
 {
-    let one_way = one_direction(memory, a, b);
-    let other_who = stored::stored_selected(memory, b);
-    let other_whom = stored::stored_allowed(memory, b);
-    let apart = row_tests::is_empty(row_sets::both(who, other_who));
-    let idle = row_tests::is_empty(other_whom);
-    let disjoint = row_tests::is_empty(row_sets::both(whom, other_whom));
-    (a < b) & (one_way & (!apart & (!idle & disjoint)))
+    let one_way = one_direction(memory, own.slot, b);
+    let who = stored::stored_set(memory, Part::Select, b);
+    let whom = stored::stored_set(memory, Part::Allow, b);
+    let apart = row_tests::is_empty(row_sets::both(own.who, who));
+    let idle = row_tests::is_empty(whom);
+    let disjoint = row_tests::is_empty(row_sets::both(own.whom, whom));
+    (own.slot < b) & (one_way & (!apart & (!idle & disjoint)))
 }
 
-// Whether a and b make a finding of kind 5, or else 6. What can be told without their sets is told first.
-pub fn compare(
-    memory: &[u64],
-    kind: usize,
-    a: usize,
-    b: usize,
-    who: [u64; 4],
-    whom: [u64; 4],
-) -> bool
-    requires { Compared memory.now who whom a × AtPolicy memory.now b }
-    ensures { result ≡ comparison kind memory.now a b }
+// Whether a policy and b make a finding of shadow, or else of conflict. What can be told without their sets is told first.
+pub fn compare(memory: &[u64], kind: Kind, own: &Compared, b: usize) -> bool
+    requires { ComparedIn memory.now own.now × AtPolicy memory.now b }
+    ensures { result ≡ comparison (kind_number kind) memory.now own.now.slot b }
 {
-    if !one_direction(memory, a, b) {
+    if !one_direction(memory, own.slot, b) {
         return false;
     }
-    if kind == 5 {
-        return shadow_at(memory, a, b, who, whom);
+    match kind {
+        Kind::Shadow => shadow_at(memory, own, b),
+        _ if b <= own.slot => false,
+        _ => conflict_at(memory, own, b),
     }
-    if b <= a {
-        return false;
-    }
-    conflict_at(memory, a, b, who, whom)
 }

@@ -1,4 +1,3 @@
 -- Laws of `row_listing`.
-pub mod LoopTests
 pub mod Members
-mod Putting
+pub mod Putting

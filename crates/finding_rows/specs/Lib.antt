@@ -1,0 +1,2 @@
+-- What the contracts of `finding_rows` cite.
+pub mod Standing
