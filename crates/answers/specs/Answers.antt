@@ -1,69 +1,69 @@
 -- What each answer says: document 01's number and values of each case.
-use Rattle.std.specs.Prelude.{List, ℕ, take}
+use Rattle.std.specs.Prelude.{Bool, List, ℕ, take, Option, Some, None, Result, Ok, Err}
+use Rattle.block.specs.declared.Reason.{Reason}
+use Rattle.block.specs.Refusal.{reason_number}
 use Rattle.model.specs.Calls.{Answer, refusal, done, container_at, policy_at, says, found, no_finding, findings_put, counted, file_put, batch_put, pairs_of}
+use Rattle.model.specs.declared.Finding.{Finding}
 use Rattle.model.specs.declared.Tally.{Tally}
+use Rattle.findings.specs.declared.Cursor.{Cursor}
+use Rattle.findings.specs.declared.Put.{Put}
 use Rattle.findings.specs.Steps.{cursor_place}
-use Rattle.answers.specs.declared.Outcome.{Outcome}
-use Rattle.answers.specs.declared.Outcome.TheVariants as outcome
-use Rattle.answers.specs.declared.Reply.{Reply}
-use Rattle.answers.specs.declared.Reply.TheVariants as reply
 use Rattle.answers.specs.declared.Admitted.{Admitted}
 use Rattle.answers.specs.declared.Admitted.TheVariants as admitted
-use Rattle.answers.specs.declared.NextFinding.{NextFinding}
-use Rattle.answers.specs.declared.NextFinding.TheVariants as next
-use Rattle.answers.specs.declared.FindingsPut.{FindingsPut}
-use Rattle.answers.specs.declared.FindingsPut.TheVariants as put
-use Rattle.answers.specs.declared.Counted.{Counted}
-use Rattle.answers.specs.declared.Counted.TheVariants as counts
-use Rattle.answers.specs.declared.FilePut.{FilePut}
-use Rattle.answers.specs.declared.FilePut.TheVariants as file
+use Rattle.answers.specs.declared.Counts.{Counts}
 
-abbrev pub outcome_answer : Outcome → Answer
-outcome_answer (outcome.Refused n) = refusal n
-outcome_answer outcome.Done = done
+-- of open, of both removals and of rebuild
+abbrev pub outcome_answer : Result (Unit {0}) Reason → Answer
+outcome_answer (Err r) = refusal (reason_number r)
+outcome_answer (Ok u) = done
 
-abbrev pub reply_answer : Reply → Answer
-reply_answer (reply.Refused n) = refusal n
-reply_answer (reply.Says t) = says t
+-- yes or no: of whether one container reaches another, whether a container carries a value, and of audit
+abbrev pub reply_answer : Result Bool Reason → Answer
+reply_answer (Err r) = refusal (reason_number r)
+reply_answer (Ok t) = says t
 
 -- "gives that place"
-abbrev pub admitted_answer : Admitted → Answer
-admitted_answer (admitted.Refused n) = refusal n
-admitted_answer (admitted.Container c) = container_at c.0
-admitted_answer (admitted.Policy q) = policy_at q.0
+abbrev pub admitted_answer : Result Admitted Reason → Answer
+admitted_answer (Err r) = refusal (reason_number r)
+admitted_answer (Ok (admitted.Container c)) = container_at c.0
+admitted_answer (Ok (admitted.Policy q)) = policy_at q.0
 
 -- the finding and the place to go on from
-abbrev pub next_answer : NextFinding → Answer
-next_answer (next.Refused n) = refusal n
-next_answer (next.Found g c) = found g (cursor_place c)
-next_answer next.Nothing = no_finding
+abbrev pub next_answer : Result (Option (Finding × Cursor)) Reason → Answer
+next_answer (Err r) = refusal (reason_number r)
+next_answer (Ok (Some p)) = found p.0 (cursor_place p.1)
+next_answer (Ok None) = no_finding
 
 -- the numbers put, which stand at the start of the list as it was left, and the place to go on from
-abbrev pub put_answer : FindingsPut → List ℕ → Answer
-put_answer (put.Refused n) e = refusal n
-put_answer (put.Findings k c) e = findings_put (take k e) (cursor_place c)
+abbrev pub put_answer : Result Put Reason → List ℕ → Answer
+put_answer (Err r) e = refusal (reason_number r)
+put_answer (Ok p) e = findings_put (take p.count e) (cursor_place p.cursor)
 
 -- how many were put
-abbrev pub count_put : FindingsPut → ℕ
-count_put (put.Refused n) = 0
-count_put (put.Findings k c) = k
+abbrev pub count_put : Result Put Reason → ℕ
+count_put (Err r) = 0
+count_put (Ok p) = p.count
 
--- standing containers, standing policies, PAIRS
-abbrev pub counted_answer : Counted → Answer
-counted_answer (counts.Refused n) = refusal n
-counted_answer (counts.Counts a b k) = counted a b k
+abbrev pub counted_answer : Result Counts Reason → Answer
+counted_answer (Err r) = refusal (reason_number r)
+counted_answer (Ok c) = counted c.containers c.policies c.pairs
 
 -- the bytes put, which stand at the start of the buffer as it was left
-abbrev pub file_answer : FilePut → List ℕ → Answer
-file_answer (file.Refused n) e = refusal n
-file_answer (file.Bytes k) e = file_put (take k e)
+abbrev pub file_answer : Result ℕ Reason → List ℕ → Answer
+file_answer (Err r) e = refusal (reason_number r)
+file_answer (Ok k) e = file_put (take k e)
 
 -- "and says how many it used"
-abbrev pub count_bytes : FilePut → ℕ
-count_bytes (file.Refused n) = 0
-count_bytes (file.Bytes k) = k
+abbrev pub count_bytes : Result ℕ Reason → ℕ
+count_bytes (Err r) = 0
+count_bytes (Ok k) = k
 
 -- the numbers put, two for each block, and the tally left
-abbrev pub batched_answer : Outcome → List ℕ → Tally → Answer
-batched_answer (outcome.Refused n) l t = refusal n
-batched_answer outcome.Done l t = batch_put (pairs_of l) t
+abbrev pub batched_answer : Result Tally Reason → List ℕ → Answer
+batched_answer (Err r) l = refusal (reason_number r)
+batched_answer (Ok t) l = batch_put (pairs_of l) t
+
+-- the caller's tally after a batch: as it was where the batch was refused
+abbrev pub tally_after : Tally → Result Tally Reason → Tally
+tally_after t (Err r) = t
+tally_after t (Ok u) = u

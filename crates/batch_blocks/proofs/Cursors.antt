@@ -7,8 +7,11 @@ use Prim.Native.Nat.{ℕ, zero, suc, ◌+◌, ◌<◌}
 use native.Mathlib.Decide.{dec_lt}
 use native.Mathlib.Omega.{arith}
 use lib.ListN.{set}
+use Rattle.std.specs.Prelude.{Result, Ok, Err}
+use Rattle.block.specs.declared.Reason.{Reason}
+use Rattle.block.specs.declared.Reason.TheVariants.{TableFull}
 use Rattle.block.specs.Entry.{Container, Policy, Entry, container, policy}
-use Rattle.block.specs.Refusal.{Read, refused, accepted}
+use Rattle.block.specs.Refusal.{reason_number, Read, refused, accepted}
 use Rattle.block.specs.Reader.{read_entry}
 use Rattle.model.specs.declared.ContainerSlot.{ContainerSlot}
 use Rattle.model.specs.declared.PolicySlot.{PolicySlot}
@@ -57,65 +60,65 @@ module _ {A : Type 0} (x : A) where
 
 -- ---- what an admission that gives an answer makes of the model
 
-data Admits (p : Model) : Admitted → Model → Type 0 where
-  kept : (n : ℕ) → Admits p (admitted.Refused n) p
-  container_came : (c : ContainerSlot) (x : Container) → lowest_free p.containers ≡ some c.0 → Admits p (admitted.Container c) (with_container p c.0 (some x))
-  policy_came : (q : PolicySlot) (x : Policy) → lowest_free p.policies ≡ some q.0 → Admits p (admitted.Policy q) (with_policy p q.0 (some x))
+data Admits (p : Model) : Result Admitted Reason → Model → Type 0 where
+  kept : (r : Reason) → Admits p (Err r) p
+  container_came : (c : ContainerSlot) (x : Container) → lowest_free p.containers ≡ some c.0 → Admits p (Ok (admitted.Container c)) (with_container p c.0 (some x))
+  policy_came : (q : PolicySlot) (x : Policy) → lowest_free p.policies ≡ some q.0 → Admits p (Ok (admitted.Policy q)) (with_policy p q.0 (some x))
 
 module _ (p : Model) where
-  refused-keeps : (n : ℕ) (r : Admitted) → admitted_answer r ≡ refusal n → Admits p r p
-  refused-keeps n (admitted.Refused k) e = kept k
-  refused-keeps n (admitted.Container c) e = let z : ◌≡◌ {A = ℕ} 0 1 = cc in absurd (omega arith)
-  refused-keeps n (admitted.Policy q) e = let z : ◌≡◌ {A = ℕ} 0 1 = cc in absurd (omega arith)
+  refused-keeps : (n : ℕ) (r : Result Admitted Reason) → admitted_answer r ≡ refusal n → Admits p r p
+  refused-keeps n (Err k) e = kept k
+  refused-keeps n (Ok (admitted.Container c)) e = let z : ◌≡◌ {A = ℕ} 0 1 = cc in absurd (omega arith)
+  refused-keeps n (Ok (admitted.Policy q)) e = let z : ◌≡◌ {A = ℕ} 0 1 = cc in absurd (omega arith)
 
-  container-comes : (x : Container) (c : ℕ) → lowest_free p.containers ≡ some c → (r : Admitted) → admitted_answer r ≡ container_at c → Admits p r (with_container p c (some x))
-  container-comes x c h (admitted.Refused k) e = let z : ◌≡◌ {A = ℕ} 0 1 = cc in absurd (omega arith)
-  container-comes x c h (admitted.Container d) e =
+  container-comes : (x : Container) (c : ℕ) → lowest_free p.containers ≡ some c → (r : Result Admitted Reason) → admitted_answer r ≡ container_at c → Admits p r (with_container p c (some x))
+  container-comes x c h (Err k) e = let z : ◌≡◌ {A = ℕ} 0 1 = cc in absurd (omega arith)
+  container-comes x c h (Ok (admitted.Container d)) e =
       let q : d.0 ≡ c = cc in
-      subst (λ (i : ℕ). Admits p (admitted.Container d) (with_container p i (some x))) q (container_came d x (h ∙ ap some (sym q)))
-  container-comes x c h (admitted.Policy q) e = let z : ◌≡◌ {A = ℕ} 0 1 = cc in absurd (omega arith)
+      subst (λ (i : ℕ). Admits p (Ok (admitted.Container d)) (with_container p i (some x))) q (container_came d x (h ∙ ap some (sym q)))
+  container-comes x c h (Ok (admitted.Policy q)) e = let z : ◌≡◌ {A = ℕ} 0 1 = cc in absurd (omega arith)
 
-  policy-comes : (x : Policy) (q : ℕ) → lowest_free p.policies ≡ some q → (r : Admitted) → admitted_answer r ≡ policy_at q → Admits p r (with_policy p q (some x))
-  policy-comes x q h (admitted.Refused k) e = let z : ◌≡◌ {A = ℕ} 0 1 = cc in absurd (omega arith)
-  policy-comes x q h (admitted.Container c) e = let z : ◌≡◌ {A = ℕ} 0 1 = cc in absurd (omega arith)
-  policy-comes x q h (admitted.Policy d) e =
+  policy-comes : (x : Policy) (q : ℕ) → lowest_free p.policies ≡ some q → (r : Result Admitted Reason) → admitted_answer r ≡ policy_at q → Admits p r (with_policy p q (some x))
+  policy-comes x q h (Err k) e = let z : ◌≡◌ {A = ℕ} 0 1 = cc in absurd (omega arith)
+  policy-comes x q h (Ok (admitted.Container c)) e = let z : ◌≡◌ {A = ℕ} 0 1 = cc in absurd (omega arith)
+  policy-comes x q h (Ok (admitted.Policy d)) e =
       let i : d.0 ≡ q = cc in
-      subst (λ (i : ℕ). Admits p (admitted.Policy d) (with_policy p i (some x))) i (policy_came d x (h ∙ ap some (sym i)))
+      subst (λ (i : ℕ). Admits p (Ok (admitted.Policy d)) (with_policy p i (some x))) i (policy_came d x (h ∙ ap some (sym i)))
 
-  placing-admits : (x : Container) (o : Option ℕ) → lowest_free p.containers ≡ o → (r : Admitted) → admitted_answer r ≡ (placing p x o).1 → Admits p r (placing p x o).0
+  placing-admits : (x : Container) (o : Option ℕ) → lowest_free p.containers ≡ o → (r : Result Admitted Reason) → admitted_answer r ≡ (placing p x o).1 → Admits p r (placing p x o).0
   unfolding placing
-  placing-admits x none h r e = refused-keeps 12 r e
+  placing-admits x none h r e = refused-keeps (reason_number TableFull) r e
   placing-admits x (some c) h r e = container-comes x c h r e
 
-  placing-policy-admits : (x : Policy) (o : Option ℕ) → lowest_free p.policies ≡ o → (r : Admitted) → admitted_answer r ≡ (placing_policy p x o).1 → Admits p r (placing_policy p x o).0
+  placing-policy-admits : (x : Policy) (o : Option ℕ) → lowest_free p.policies ≡ o → (r : Result Admitted Reason) → admitted_answer r ≡ (placing_policy p x o).1 → Admits p r (placing_policy p x o).0
   unfolding placing_policy
-  placing-policy-admits x none h r e = refused-keeps 12 r e
+  placing-policy-admits x none h r e = refused-keeps (reason_number TableFull) r e
   placing-policy-admits x (some q) h r e = policy-comes x q h r e
 
-  admits : (o : Read Entry) (r : Admitted) → admitted_answer r ≡ (admitting p o).1 → Admits p r (admitting p o).0
+  admits : (o : Read Entry) (r : Result Admitted Reason) → admitted_answer r ≡ (admitting p o).1 → Admits p r (admitting p o).0
   unfolding admitting
-  admits (refused f) r e = refused-keeps f.number r e
+  admits (refused f) r e = refused-keeps (reason_number f.reason) r e
   admits (accepted (container x)) r e = placing-admits x (lowest_free p.containers) refl r e
   admits (accepted (policy x)) r e = placing-policy-admits x (lowest_free p.policies) refl r e
 
 -- ---- the slot, and the cursors
 
-admits-below : {p p' : Model} {r : Admitted} → Sized p → Admits p r p' → slot_of r < 256
+admits-below : {p p' : Model} {r : Result Admitted Reason} → Sized p → Admits p r p' → slot_of r < 256
 admits-below {p} s (kept n) = omega arith
 admits-below {p} s (container_came c x h) = omega (arith, lowest-below p.containers c.0 h, s.containers)
 admits-below {p} s (policy_came q x h) = omega (arith, lowest-below p.policies q.0 h, s.policies)
 
 -- before the first block
-pub free-from-none : (p : Model) {came : Came} → came.container_from ≡ 0 → came.policy_from ≡ 0 → FreeFrom p came
+pub free-from-none : (p : Model) {came : Came} → came.containers.from ≡ 0 → came.policies.from ≡ 0 → FreeFrom p came
 free-from-none p e f = record { containers = rw e (none-free-yet p.containers); policies = rw f (none-free-yet p.policies) }
 
-admits-free-from : {p p' : Model} {r : Admitted} {came came' : Came} → Admits p r p' → CameWith came r came' → FreeFrom p came → FreeFrom p' came'
+admits-free-from : {p p' : Model} {r : Result Admitted Reason} {came came' : Came} → Admits p r p' → CameWith came r came' → FreeFrom p came → FreeFrom p' came'
 unfolding with_container with_policy
 admits-free-from {p} (kept n) w b = record { containers = rw w.container_from b.containers; policies = rw w.policy_from b.policies }
 admits-free-from {p} (container_came c x h) w b = record { containers = rw w.container_from (none-free-past x p.containers c.0 h); policies = rw w.policy_from b.policies }
 admits-free-from {p} (policy_came q x h) w b = record { containers = rw w.container_from b.containers; policies = rw w.policy_from (none-free-past x p.policies q.0 h) }
 
-module _ (m b : List ℕ) {m' : List ℕ} (r : Admitted) (placed : (m', admitted_answer r) ≡ block_placed m b) where
+module _ (m b : List ℕ) {m' : List ℕ} (r : Result Admitted Reason) (placed : (m', admitted_answer r) ≡ block_placed m b) where
   placed-admits : Admits (model_in m) r (admitting (model_in m) (read_entry (model_in m).settings b)).0
   unfolding block_placed
   placed-admits = admits (model_in m) (read_entry (model_in m).settings b) r (ap (λ (s : List ℕ × Answer). s.1) placed)

@@ -4,11 +4,11 @@ use mathlib.Core.List.{List}
 use mathlib.Core.Option.{Option, none, some}
 use Prim.Native.Nat.{ℕ}
 use Rattle.block.specs.declared.Refusal.{Refusal}
-use Rattle.block.specs.declared.Tested.TheVariants.{Refused}
+use Rattle.block.specs.declared.Reason.{Reason}
+use Rattle.block.specs.declared.Reason.TheVariants.{TableFull}
 use Rattle.block.specs.Entry.{Container, Policy, container, policy}
-use Rattle.block.specs.Refusal.{first_refusal}
-use Rattle.block.specs.Reader.{entry_checks, read_entry, AcceptedAs}
-use Rattle.block.proofs.Accepted.{entry_read}
+use Rattle.block.specs.Refusal.{reason_number, refused}
+use Rattle.block.specs.Reader.{read_entry, AcceptedAs}
 use Rattle.model.specs.Table.{lowest_free}
 use Rattle.model.specs.Model.{Model}
 use Rattle.model.specs.Calls.{Answer, refusal, container_at, policy_at}
@@ -27,22 +27,22 @@ module _ (m b : List ℕ) where
   placed_by s e = ap (λ (s : Model × Answer). (image (record { model = s.0; bits = bits_in m }), s.1)) e
 
   -- a refusal leaves every word
-  placed-refused : EntriesFormed m → Fit m → (n : ℕ) → admitting (model_in m) (read_entry (model_in m).settings b) ≡ (model_in m, refusal n) → block_placed m b ≡ (m, refusal n)
+  placed-refused : EntriesFormed m → Fit m → (r : Reason) → admitting (model_in m) (read_entry (model_in m).settings b) ≡ (model_in m, refusal (reason_number r)) → block_placed m b ≡ (m, refusal (reason_number r))
   unfolding registry_in
-  placed-refused ok fit n e = placed_by (model_in m, refusal n) e ∙ ap (λ (l : List ℕ). (l, refusal n)) (sym (image-written (registry_in m) m (entries-hold m ok) fit))
+  placed-refused ok fit r e = placed_by (model_in m, refusal (reason_number r)) e ∙ ap (λ (l : List ℕ). (l, refusal (reason_number r))) (sym (image-written (registry_in m) m (entries-hold m ok) fit))
 
-  pub block_refused : EntriesFormed m → Fit m → (by : Refusal) → first_refusal (entry_checks (model_in m).settings b) ≡ Refused by → block_placed m b ≡ (m, refusal by.number)
+  pub block_refused : EntriesFormed m → Fit m → (f : Refusal) → read_entry (model_in m).settings b ≡ refused f → block_placed m b ≡ (m, refusal (reason_number f.reason))
   unfolding admitting
-  block_refused ok fit by e = placed-refused ok fit by.number (ap (admitting (model_in m)) (entry_read (model_in m).settings b (Refused by) e))
+  block_refused ok fit f e = placed-refused ok fit f.reason (ap (admitting (model_in m)) e)
 
   module _ (x : Container) (read : AcceptedAs (model_in m).settings b (container x)) where
     container-by : (o : Option ℕ) → lowest_free (model_in m).containers ≡ o → admitting (model_in m) (read_entry (model_in m).settings b) ≡ placing (model_in m) x o
     unfolding admitting
     container-by o h = ap (admitting (model_in m)) read ∙ ap (placing (model_in m) x) h
 
-    pub container-refused : EntriesFormed m → Fit m → lowest_free (model_in m).containers ≡ none → block_placed m b ≡ (m, refusal 12)
+    pub container-refused : EntriesFormed m → Fit m → lowest_free (model_in m).containers ≡ none → block_placed m b ≡ (m, refusal (reason_number TableFull))
     unfolding placing
-    container-refused ok fit h = placed-refused ok fit 12 (container-by none h)
+    container-refused ok fit h = placed-refused ok fit TableFull (container-by none h)
 
     pub container-came : (c : ℕ) (m' : List ℕ) → lowest_free (model_in m).containers ≡ some c → m' ≡ image (container_placed (registry_in m) c (some x)) → block_placed m b ≡ (m', container_at c)
     unfolding placing container_placed registry_in
@@ -53,9 +53,9 @@ module _ (m b : List ℕ) where
     unfolding admitting
     policy-by o h = ap (admitting (model_in m)) read ∙ ap (placing_policy (model_in m) p) h
 
-    pub policy-refused : EntriesFormed m → Fit m → lowest_free (model_in m).policies ≡ none → block_placed m b ≡ (m, refusal 12)
+    pub policy-refused : EntriesFormed m → Fit m → lowest_free (model_in m).policies ≡ none → block_placed m b ≡ (m, refusal (reason_number TableFull))
     unfolding placing_policy
-    policy-refused ok fit h = placed-refused ok fit 12 (policy-by none h)
+    policy-refused ok fit h = placed-refused ok fit TableFull (policy-by none h)
 
     pub policy-came : (q : ℕ) (m' : List ℕ) → lowest_free (model_in m).policies ≡ some q → m' ≡ image (policy_placed (registry_in m) q (some p)) → block_placed m b ≡ (m', policy_at q)
     unfolding placing_policy policy_placed registry_in

@@ -8,95 +8,97 @@ ghost use Rattle.block.specs.Reader.{container_said, policy_said, AcceptedAs};
 ghost use Rattle.formed.specs.Registry.{model_in, EntriesFormed};
 ghost use Rattle.entries.specs.Entries.{NoneFree};
 ghost use Rattle.answers.specs.Answers.{admitted_answer};
-ghost use Rattle.batch_blocks.specs.Blocks.{block_placed, slot_of, CameWith};
+ghost use Rattle.batch_blocks.specs.Blocks.{block_placed, slot_of, OneMore, CameWith, FreeFrom};
 
 use answers::Admitted;
-use block::{Settings, Tested, numbers};
-use entries::{FreeContainer, FreePolicy};
+use block::{Reason, Sort};
+use model::{ContainerSlot, PolicySlot};
 
-// What came in a batch: the slots that containers and policies came to, and in each table the slot from which on the next search begins.
+// What came to a table in a batch: the slots that entries came to, and the slot from which on the next search begins.
+#[derive(Clone, Copy)]
+pub struct Arrived {
+    pub slots: [u64; 4],
+    pub from: usize,
+}
+
+// What came in a batch, table by table.
 #[derive(Clone, Copy)]
 pub struct Came {
-    pub containers: [u64; 4],
-    pub policies: [u64; 4],
-    pub container_from: usize,
-    pub policy_from: usize,
+    pub containers: Arrived,
+    pub policies: Arrived,
+}
+
+impl Arrived {
+    // One slot more, the lowest that was free.
+    fn with(self, slot: usize) -> Arrived
+        requires { slot < 256 }
+        ensures { OneMore self slot result }
+    {
+        Arrived {
+            slots: row_sets::with(self.slots, slot),
+            from: slot + 1,
+        }
+    }
 }
 
 // The container of an accepted block comes to the lowest free slot.
-fn place_container_of(memory: &mut [u64], block: &[u8], from: usize) -> Admitted
+// Kept: one function for both tables would ask a trait for the entry that a block says, the change, its law and the variant, which is more
+// than the two.
+fn place_container_of(memory: &mut [u64], block: &[u8], from: usize) -> Result<Admitted, Reason>
     requires entries_formed { EntriesFormed memory.old × NoneFree (model_in memory.old).containers from }
     requires accepted_as { AcceptedAs (model_in memory.old).settings block.now (container (container_said block.now)) }
     ensures { (memory.new, admitted_answer result) ≡ block_placed memory.old block.now }
 {
-    let free = slot_search::free_container_from(memory, from);
-    let FreeContainer::At(slot) = free else {
-        return Admitted::Refused(numbers::TABLE_FULL);
+    let Some(slot) = slot_search::free_from::<ContainerSlot>(memory, from) else {
+        return Err(Reason::TableFull);
     };
     placing::place_container(memory, slot.0, block);
-    Admitted::Container(slot)
+    Ok(Admitted::Container(slot))
 }
 
 // The policy of an accepted block comes to the lowest free slot.
-fn place_policy_of(memory: &mut [u64], block: &[u8], from: usize) -> Admitted
+// Kept: as above.
+fn place_policy_of(memory: &mut [u64], block: &[u8], from: usize) -> Result<Admitted, Reason>
     requires entries_formed { EntriesFormed memory.old × NoneFree (model_in memory.old).policies from }
     requires accepted_as { AcceptedAs (model_in memory.old).settings block.now (policy (policy_said block.now)) }
     ensures { (memory.new, admitted_answer result) ≡ block_placed memory.old block.now }
 {
-    let free = slot_search::free_policy_from(memory, from);
-    let FreePolicy::At(slot) = free else {
-        return Admitted::Refused(numbers::TABLE_FULL);
+    let Some(slot) = slot_search::free_from::<PolicySlot>(memory, from) else {
+        return Err(Reason::TableFull);
     };
     placing::place_policy(memory, slot.0, block);
-    Admitted::Policy(slot)
+    Ok(Admitted::Policy(slot))
 }
 
 // The entry of a block comes to the lowest free slot of its table; no stored bit changes. The block may be of any bytes.
-pub fn place_block(
-    memory: &mut [u64],
-    block: &[u8],
-    container_from: usize,
-    policy_from: usize,
-) -> Admitted
-    requires { EntriesFormed memory.old × NoneFree (model_in memory.old).containers container_from × NoneFree (model_in memory.old).policies policy_from }
+pub fn place_block(memory: &mut [u64], block: &[u8], came: Came) -> Result<Admitted, Reason>
+    requires { EntriesFormed memory.old × FreeFrom (model_in memory.old) came }
     ensures result_after { (memory.new, admitted_answer result) ≡ block_placed memory.old block.now }
     ensures result_bound { slot_of result < 256 }
 {
-    let settings = Settings {
-        user_key: memory[0],
-        system_key: memory[1],
-        system_value: memory[2],
-    };
-    let tested = reader::test_entry(settings, block);
-    if let Tested::Refused(why) = tested {
-        return Admitted::Refused(why.number);
+    let sort = call_tests::test_block(memory, block)?;
+    match sort {
+        Sort::Container => place_container_of(memory, block, came.containers.from),
+        Sort::Policy => place_policy_of(memory, block, came.policies.from),
     }
-    if block[0] == 67 {
-        return place_container_of(memory, block, container_from);
-    }
-    place_policy_of(memory, block, policy_from)
 }
 
 // One answer more.
-pub fn came_with(came: Came, answer: Admitted) -> Came
+pub fn came_with(came: Came, answer: Result<Admitted, Reason>) -> Came
     requires { slot_of answer < 256 }
     ensures { CameWith came answer result }
 {
-    let containers = came.containers;
-    let policies = came.policies;
-    match answer {
-        Admitted::Refused(_) => came,
+    let Ok(admitted) = answer else {
+        return came;
+    };
+    match admitted {
         Admitted::Container(c) => Came {
-            containers: row_sets::with(containers, c.0),
-            policies,
-            container_from: c.0 + 1,
-            policy_from: came.policy_from,
+            containers: came.containers.with(c.0),
+            policies: came.policies,
         },
         Admitted::Policy(q) => Came {
-            containers,
-            policies: row_sets::with(policies, q.0),
-            container_from: came.container_from,
-            policy_from: q.0 + 1,
+            containers: came.containers,
+            policies: came.policies.with(q.0),
         },
     }
 }

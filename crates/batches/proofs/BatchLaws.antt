@@ -9,8 +9,9 @@ use Rattle.bitrow.specs.Bit.{bit_at}
 use Rattle.buffer.specs.Buffer.{overwritten, Puts}
 use Rattle.buffer.proofs.BufferLaws.{puts_none, puts-next, puts-as, puts-start, puts-taken}
 use Rattle.block.specs.Cut.{blocks_of}
-use Rattle.block.specs.declared.Tested.TheVariants.{Passed}
-use Rattle.block.specs.Refusal.{first_refusal}
+use Rattle.std.specs.Prelude.{Result, Ok, Err, IsErrAnd}
+use Rattle.block.specs.declared.Reason.{Reason}
+use Rattle.block.specs.Refusal.{reason_number, first_refusal}
 use Rattle.block.proofs.Cut.{blocks-count}
 use Rattle.model.specs.declared.Tally.{Tally}
 use Rattle.model.specs.Calls.{change, admit_batch, Answer, refusal, batch_put, numbers_of, pairs_of, written, tally_left, run}
@@ -28,14 +29,15 @@ use Rattle.formed.proofs.Apart.{formed-apart}
 use Rattle.formed.proofs.Formed.{formed-memory, formed-entries}
 use Rattle.formed.proofs.StoredLaws.{Fit}
 use Rattle.steps.specs.MemoryStep.{memory_step}
-use Rattle.steps.proofs.Outcomes.{batch-admits}
-use Rattle.answers.specs.Answers.{admitted_answer}
-use Rattle.answers.proofs.AnswerLaws.{promised-refused}
+use Rattle.steps.proofs.Outcomes.{batch-refused, batch-admits}
+use Rattle.call_tests.proofs.TestLaws.{reason_for}
+use Rattle.answers.specs.Answers.{admitted_answer, batched_answer, tally_after}
+use Rattle.answers.proofs.AnswerLaws.{returned, promised-refused}
 use Rattle.batch_blocks.specs.Blocks.{block_placed}
 use Rattle.batch_blocks.proofs.Left.{left-formed, left-model, left-bits}
 use Rattle.batch_blocks.proofs.Cursors.{placed-free-from, free-from-none}
 use Rattle.batches.specs.declared.Progress.{Progress}
-use Rattle.batches.specs.Progress.{Begun, first_blocks, first_answers, TookBlock, BatchAt}
+use Rattle.batches.specs.Progress.{batch_test, Begun, first_blocks, first_answers, TookBlock, BatchAt}
 use Rattle.batches.proofs.Blocks.{first-none, first-all, entries_next, answers_next}
 use Rattle.batches.proofs.CameLaws.{none_came, no-policy-came, containers-with, policies-with}
 
@@ -158,8 +160,8 @@ module _ (m bs d : List ℕ) (t : Tally) where
     placed-formed fit =
         (formed-apart m' fit).1 (g.formed, subst BitsStand (sym all_placed) (placed-stand r (blocks_of bs) (formed-memory m formed).acceptable.bits))
 
-    module _ (n : ℕ) (passed : first_refusal (batch_checks bs n) ≡ Passed) {f : List ℕ}
-        (settles : f ≡ image (settled (bit_at p.came.containers) (bit_at p.came.policies) (registry_in m'))) where
+    module _ (n : ℕ) (passed : first_refusal (batch_checks bs n) ≡ Ok tt) {f : List ℕ}
+        (settles : f ≡ image (settled (bit_at p.came.containers.slots) (bit_at p.came.policies.slots) (registry_in m'))) where
       -- what is settled is what one pass leaves
       settled-once : f ≡ image (one_pass r (blocks_of bs)).0
       unfolding one_pass registry_in
@@ -201,9 +203,18 @@ module _ (m bs d : List ℕ) (t : Tally) where
 
   -- ---- a batch that is refused
 
-  pub batch-turned : (n k : ℕ) → memory_step m (change (admit_batch bs n t)) ≡ (m, refusal k)
+  pub batch-turned : (n : ℕ) (l : List ℕ) (o : Result Tally Reason) (r : Reason) → IsErrAnd o (λ x. x ≡ r)
+      → memory_step m (change (admit_batch bs n t)) ≡ (m, refusal (reason_number r))
       → let s = memory_step m (change (admit_batch bs n t)) in
-      ((m, refusal k) ≡ s) × ((d ≡ overwritten d (written s.1)) × (t ≡ tally_left t s.1))
-  batch-turned n k h =
-      let g = promised-refused m (change (admit_batch bs n t)) d k h in
-      (g.0, (g.1.1, ap (λ (s : List ℕ × Answer). tally_left t s.1) (sym h)))
+      ((m, batched_answer o l) ≡ s) × ((d ≡ overwritten d (written s.1)) × (tally_after t o ≡ tally_left t s.1))
+  batch-turned n l o r w h =
+      let g = promised-refused m (change (admit_batch bs n t)) d (reason_number r) h in
+      let e : o ≡ Err r = returned w in
+      (ap (λ (x : Result Tally Reason). (m, batched_answer x l)) e ∙ g.0, (g.1.1, ap (tally_after t) e ∙ ap (λ (s : List ℕ × Answer). tally_left t s.1) (sym h)))
+
+-- refused by 14 or 13
+pub batch-refused-by : (m bs : List ℕ) (n : ℕ) (t : Tally) {r : Reason} → well_formed m ≡ true → batch_test bs n ≡ Err r
+    → memory_step m (change (admit_batch bs n t)) ≡ (m, refusal (reason_number r))
+batch-refused-by m bs n t formed e =
+    let f = reason_for (first_refusal (batch_checks bs n)) e in
+    batch-refused m formed bs n t f.0 f.1 ∙ ap (λ w. (m, refusal (reason_number w))) f.2

@@ -5,8 +5,10 @@ use mathlib.Core.List.{List, [], ◌∷◌, ◌++◌}
 use mathlib.Core.Option.{Option, none, some}
 use Prim.Native.Nat.{ℕ}
 use lib.Dec.{eqb}
+use Rattle.std.specs.Prelude.{Result, Ok, Err}
 use Rattle.bitrow.specs.Set.{nothing, insert}
 use Rattle.bitrow.proofs.Sets.{point}
+use Rattle.block.specs.declared.Reason.{Reason}
 use Rattle.model.specs.Table.{any, on}
 use Rattle.model.specs.Calls.{Answer, said}
 use Rattle.model.specs.OnePass.{containers_came, policies_came}
@@ -52,20 +54,20 @@ module _ (part : Answer → Option ℕ) where
       pick c (some d) = ap (λ (t : Bool). eqb c d || t) (point e c) ∙ one_more-law (eqb c d) (came given c)
 
 module _ (given : List Answer) {s : ℕ → Bool} where
-  pub containers-with : s ≡ containers_came given → (a : Admitted) → containers_with s a ≡ containers_came (given ++ (admitted_answer a ∷ []))
+  pub containers-with : s ≡ containers_came given → (a : Result Admitted Reason) → containers_with s a ≡ containers_came (given ++ (admitted_answer a ∷ []))
   unfolding containers_came
   containers-with e a = pick a ∙ came-with (λ x. (said x).container) given (admitted_answer a) e
     where
-      pick : (a : Admitted) → containers_with s a ≡ added (said (admitted_answer a)).container s
-      pick (admitted.Refused n) = refl
-      pick (admitted.Container c) = refl
-      pick (admitted.Policy q) = refl
+      pick : (a : Result Admitted Reason) → containers_with s a ≡ added (said (admitted_answer a)).container s
+      pick (Err r) = refl
+      pick (Ok (admitted.Container c)) = refl
+      pick (Ok (admitted.Policy q)) = refl
 
-  pub policies-with : s ≡ policies_came given → (a : Admitted) → policies_with s a ≡ policies_came (given ++ (admitted_answer a ∷ []))
+  pub policies-with : s ≡ policies_came given → (a : Result Admitted Reason) → policies_with s a ≡ policies_came (given ++ (admitted_answer a ∷ []))
   unfolding policies_came
   policies-with e a = pick a ∙ came-with (λ x. (said x).policy) given (admitted_answer a) e
     where
-      pick : (a : Admitted) → policies_with s a ≡ added (said (admitted_answer a)).policy s
-      pick (admitted.Refused n) = refl
-      pick (admitted.Container c) = refl
-      pick (admitted.Policy q) = refl
+      pick : (a : Result Admitted Reason) → policies_with s a ≡ added (said (admitted_answer a)).policy s
+      pick (Err r) = refl
+      pick (Ok (admitted.Container c)) = refl
+      pick (Ok (admitted.Policy q)) = refl

@@ -7,15 +7,15 @@ use native.Mathlib.Omega.{arith}
 use lib.ListN.{length}
 use Rattle.block.specs.Cut.{blocks_of}
 use Rattle.block.specs.declared.Refusal.{Refusal}
-use Rattle.block.specs.declared.Tested.TheVariants.{Passed, Refused}
+use Rattle.std.specs.Prelude.{Ok, Err, Result, ⊤}
 use Rattle.block.specs.Refusal.{first_refusal}
 use Rattle.model.specs.Refusals.{batch_checks}
 use Rattle.model.proofs.Batch.{batch-long, batch-cut, batch-short}
 
-module _ (bs : List ℕ) (n : ℕ) (passed : first_refusal (batch_checks bs n) ≡ Passed) where
-  never : {A : Type 0} (f : Refusal) → first_refusal (batch_checks bs n) ≡ Refused f → A
+module _ (bs : List ℕ) (n : ℕ) (passed : first_refusal (batch_checks bs n) ≡ Ok tt) where
+  never : {A : Type 0} (f : Refusal) → first_refusal (batch_checks bs n) ≡ Err f → A
   never f e =
-      let h : Passed ≡ Refused f = sym passed ∙ e in
+      let h : ◌≡◌ {A = Result ⊤ Refusal} (Ok tt) (Err f) = sym passed ∙ e in
       let z : ◌≡◌ {A = ℕ} 0 1 = cc in
       absurd (omega arith)
 

@@ -1,26 +1,34 @@
 -- How far a batch has come.
-use Rattle.std.specs.Prelude.{◌≡◌, List, map, ℕ, ◌+◌, ◌*◌, take, set}
+use Rattle.std.specs.Prelude.{◌≡◌, List, map, ℕ, ◌+◌, ◌*◌, take, set, Result, ⊤}
 use Rattle.bitrow.specs.Bit.{bit_at}
 use Rattle.bitrow.specs.Set.{nothing}
 use Rattle.buffer.specs.Buffer.{Puts}
+use Rattle.block.specs.declared.Reason.{Reason}
+use Rattle.block.specs.Refusal.{first_refusal}
 use Rattle.block.specs.Cut.{blocks_of}
 use Rattle.model.specs.declared.Tally.{Tally}
 use Rattle.model.specs.Calls.{Answer, numbers_of, run}
 use Rattle.model.specs.Batch.{pair_of, is_taken, tallied_one, tallied}
 use Rattle.model.specs.ModelStep.{admitting_block}
 use Rattle.model.specs.OnePass.{containers_came, policies_came, entries_placed}
+use Rattle.model.specs.Refusals.{batch_checks}
 use Rattle.formed.specs.Registry.{model_in, registry_in, EntriesFormed}
+use Rattle.call_tests.specs.Tests.{reason_of}
 use Rattle.answers.specs.declared.Admitted.{Admitted}
 use Rattle.answers.specs.Answers.{admitted_answer}
 use Rattle.batch_blocks.specs.Blocks.{block_placed, CameWith, FreeFrom}
 use Rattle.batches.specs.declared.Progress.{Progress}
 
+-- 14 and 13
+abbrev pub batch_test : List ℕ → ℕ → Result ⊤ Reason
+batch_test bs n = reason_of (first_refusal (batch_checks bs n))
+
 -- nothing came yet
 pub record Begun (t : Tally) (p : Progress) : Type 0 where
-  pub containers : bit_at p.came.containers ≡ nothing
-  pub policies : bit_at p.came.policies ≡ nothing
-  pub container_from : p.came.container_from ≡ 0
-  pub policy_from : p.came.policy_from ≡ 0
+  pub containers : bit_at p.came.containers.slots ≡ nothing
+  pub policies : bit_at p.came.policies.slots ≡ nothing
+  pub container_from : p.came.containers.from ≡ 0
+  pub policy_from : p.came.policies.from ≡ 0
   pub tally : p.tally ≡ t
 
 -- the first i blocks, and the answers to them from the entries of m
@@ -32,7 +40,7 @@ first_answers m bs i = (run admitting_block (model_in m) (first_blocks bs i)).1
 
 -- a block b was answered so: it leaves of m and p the memory m' and the progress p', and its numbers stand in the list d, now e
 pub record TookBlock (m b d : List ℕ) (i : ℕ) (p : Progress) (m' e : List ℕ) (p' : Progress) : Type 0 where
-  pub answer : Admitted
+  pub answer : Result Admitted Reason
   pub placed : (m', admitted_answer answer) ≡ block_placed m b
   pub came : CameWith p.came answer p'.came
   pub tally : p'.tally ≡ tallied_one p.tally (is_taken (pair_of (admitted_answer answer)))
@@ -43,7 +51,7 @@ pub record BatchAt (m bs d : List ℕ) (t : Tally) (i : ℕ) (m' e : List ℕ) (
   pub formed : EntriesFormed m'
   pub placed : registry_in m' ≡ entries_placed (registry_in m) (first_blocks bs i)
   pub free : FreeFrom (model_in m') p.came
-  pub containers : bit_at p.came.containers ≡ containers_came (first_answers m bs i)
-  pub policies : bit_at p.came.policies ≡ policies_came (first_answers m bs i)
+  pub containers : bit_at p.came.containers.slots ≡ containers_came (first_answers m bs i)
+  pub policies : bit_at p.came.policies.slots ≡ policies_came (first_answers m bs i)
   pub tally : p.tally ≡ tallied t (map pair_of (first_answers m bs i))
   pub list : Puts d 0 (numbers_of (map pair_of (first_answers m bs i))) e (2 * i)

@@ -1,5 +1,5 @@
-// The calls of `registry_c` with the names that C links: a crate is a library, for crates above it, or a static library, for C. Each
-// calls the one of its name and says what that says.
+// The calls of `registry_c` with the names that C links. Each calls the one of its name and says what that says.
+// Kept: a crate is a library, for crates above it, or a static library, for C, so that each call stands in both.
 #![tactic(auto)]
 
 ghost use Rattle.std.specs.Prelude.{◌≡◌, length};

@@ -6,9 +6,9 @@ use mathlib.Core.Option.{Option, none, some}
 use Prim.Native.Nat.{ℕ, zero, suc}
 use native.Mathlib.Omega.{arith}
 use lib.ListN.{length}
-use Rattle.block.specs.declared.Tested.{Tested}
-use Rattle.block.specs.declared.Tested.TheVariants.{Passed, Refused}
-use Rattle.block.specs.Refusal.{first_refusal}
+use Rattle.std.specs.Prelude.{Result, Ok, Err, ⊤}
+use Rattle.block.specs.declared.Refusal.{Refusal}
+use Rattle.block.specs.Refusal.{reason_number, first_refusal}
 use Rattle.block.specs.Cut.{blocks_of}
 use Rattle.block.specs.Entry.{Policy, Entry, container, policy}
 use Rattle.block.specs.Reader.{entry_said}
@@ -29,7 +29,7 @@ use Rattle.model.proofs.Next.{is-next}
 use Rattle.formed.specs.Registry.{model_in, bits_in, registry_in}
 use Rattle.findings.proofs.NextFinding.{next_in, next-sized}
 use Rattle.steps.specs.MemoryStep.{memory_refusals, memory_outcome, memory_step}
-use Rattle.steps.proofs.NumbersMet.{refusal-positive}
+use Rattle.block.proofs.Checks.{reason-positive}
 use Rattle.codes.specs.Codes.{code_of}
 use Rattle.steps.proofs.Outcomes.{container-slot-below, policy-slot-below}
 use Rattle.codes.proofs.Few.{containers-few, policies-few, pairs-fit}
@@ -129,8 +129,7 @@ module _ (m : List ℕ) where
   unfolding memory_step
   decoded-step call = pick (first_refusal (memory_refusals m call)) refl
     where
-      pick : (o : Tested) → first_refusal (memory_refusals m call) ≡ o → let a = (memory_outcome m call o).1 in decoded call (written a) (code_of a) ≡ a
-      pick Passed e = decodes-step call
-      pick (Refused f) e =
-          decodes-refusal (accepted_as call [] (code_of (refusal f.number))) f.number
-          (refusal-positive m call f e)
+      pick : (o : Result ⊤ Refusal) → first_refusal (memory_refusals m call) ≡ o → let a = (memory_outcome m call o).1 in decoded call (written a) (code_of a) ≡ a
+      pick (Ok tt) e = decodes-step call
+      pick (Err f) e =
+          decodes-refusal (accepted_as call [] (code_of (refusal (reason_number f.reason)))) (reason_number f.reason) (reason-positive f.reason)

@@ -9,31 +9,32 @@ ghost use Rattle.answers.specs.Answers.{admitted_answer};
 ghost use Rattle.answers.specs.Admission.{container_admitted, policy_admitted};
 
 use answers::Admitted;
-use block::numbers;
-use entries::{FreeContainer, FreePolicy};
+use block::Reason;
+use model::{ContainerSlot, PolicySlot};
 
 // The container comes to the lowest free slot.
-pub fn admit_container(memory: &mut [u64], block: &[u8]) -> Admitted
+// Kept: one function for both tables would ask a trait for the entry that a block says, the change, its law and the variant, which is more
+// than the two.
+pub fn admit_container(memory: &mut [u64], block: &[u8]) -> Result<Admitted, Reason>
     requires { EntriesFormed memory.old × AcceptedAs (model_in memory.old).settings block.now (container (container_said block.now)) }
     ensures { (memory.new, admitted_answer result) ≡ container_admitted memory.old (container_said block.now) }
 {
-    let free = slot_search::free_container(memory);
-    let FreeContainer::At(slot) = free else {
-        return Admitted::Refused(numbers::TABLE_FULL);
+    let Some(slot) = slot_search::free_slot::<ContainerSlot>(memory) else {
+        return Err(Reason::TableFull);
     };
     container_changes::put_container(memory, slot, block);
-    Admitted::Container(slot)
+    Ok(Admitted::Container(slot))
 }
 
 // The policy comes to the lowest free slot.
-pub fn admit_policy(memory: &mut [u64], block: &[u8]) -> Admitted
+// Kept: as above.
+pub fn admit_policy(memory: &mut [u64], block: &[u8]) -> Result<Admitted, Reason>
     requires { EntriesFormed memory.old × AcceptedAs (model_in memory.old).settings block.now (policy (policy_said block.now)) }
     ensures { (memory.new, admitted_answer result) ≡ policy_admitted memory.old (policy_said block.now) }
 {
-    let free = slot_search::free_policy(memory);
-    let FreePolicy::At(slot) = free else {
-        return Admitted::Refused(numbers::TABLE_FULL);
+    let Some(slot) = slot_search::free_slot::<PolicySlot>(memory) else {
+        return Err(Reason::TableFull);
     };
     policy_changes::put_policy(memory, slot, block);
-    Admitted::Policy(slot)
+    Ok(Admitted::Policy(slot))
 }

@@ -2,15 +2,14 @@
 use mathlib.Core.Path.{◌≡◌, refl, sym, ap, ◌∙◌}
 use mathlib.Core.List.{List}
 use Prim.Native.Nat.{ℕ}
-use native.Mathlib.Omega.{arith}
 use lib.ListN.{length}
+use Rattle.std.specs.Prelude.{Ok, Err}
 use Rattle.block.specs.declared.Refusal.{Refusal}
-use Rattle.block.specs.declared.Tested.{Tested}
-use Rattle.block.specs.declared.Tested.TheVariants.{Passed, Refused}
-use Rattle.block.specs.declared.SettingsReading.{SettingsReading}
-use Rattle.block.specs.Refusal.{Read, refused, accepted, tested_of}
+use Rattle.block.specs.declared.Settings.{Settings as SettingsWords}
+use Rattle.block.specs.Entry.{Settings}
+use Rattle.block.specs.Refusal.{reason_number, Read, refused, accepted}
 use Rattle.block.specs.Reader.{read_settings}
-use Rattle.block.specs.Reading.{settings_words, settings_of, settings_words_in, ReadsSettings}
+use Rattle.block.specs.Reading.{settings_words, settings_of, read_words}
 use Rattle.model.specs.Calls.{open_with, refusal, done}
 use Rattle.model.specs.Registry.{opened}
 use Rattle.store.specs.Layout.{memory_words}
@@ -20,30 +19,22 @@ use Rattle.steps.proofs.Outcomes.{open-refused, open_done}
 
 -- ---- a reading
 
-module _ {A : Type 0} (t : Tested) (o : Read A) (says : t ≡ tested_of o) where
-  read-refused : (f : Refusal) → t ≡ Refused f → o ≡ refused f
-  read-refused f e = pick o (sym says ∙ e)
-    where
-      pick : (x : Read A) → tested_of x ≡ Refused f → x ≡ refused f
-      pick (refused g) h = cc
-      pick (accepted x) h = cc
+refused_as : (o : Read Settings) (f : Refusal) → read_words o ≡ Err f → o ≡ refused f
+refused_as (refused g) f e = cc
+refused_as (accepted s) f e = cc
 
-  read-accepted : t ≡ Passed → (x : A) × (o ≡ accepted x)
-  read-accepted e = pick o (sym says ∙ e)
-    where
-      pick : (x : Read A) → tested_of x ≡ Passed → (y : A) × (x ≡ accepted y)
-      pick (refused g) h = let z : ◌≡◌ {A = ℕ} 0 1 = cc in absurd (omega arith)
-      pick (accepted x) h = (x, refl)
+accepted_as : (o : Read Settings) (w : SettingsWords) → read_words o ≡ Ok w → (s : Settings) × (o ≡ accepted s) × (settings_of w ≡ s)
+unfolding settings_words settings_of
+accepted_as (refused g) w e = cc
+accepted_as (accepted s) w e = let h : settings_words s ≡ w = cc in (s, refl, ap settings_of (sym h))
 
 -- ---- open
 
-module _ (m b : List ℕ) (whole : length m ≡ memory_words) (r : SettingsReading) (reads : ReadsSettings b r) where
-  pub open-refused-by : (by : Refusal) → r.tested ≡ Refused by → memory_step m (open_with b) ≡ (m, refusal by.number)
-  open-refused-by by e = open-refused m b whole by (read-refused r.tested (read_settings b) reads.tested by e)
+module _ (m b : List ℕ) (whole : length m ≡ memory_words) where
+  pub open-refused-by : (f : Refusal) → read_words (read_settings b) ≡ Err f → memory_step m (open_with b) ≡ (m, refusal (reason_number f.reason))
+  open-refused-by f e = open-refused m b whole f (refused_as (read_settings b) f e)
 
-  pub open-answer : (m' : List ℕ) → r.tested ≡ Passed → m' ≡ image (opened (settings_of r.settings)) → memory_step m (open_with b) ≡ (m', done)
-  unfolding settings_words settings_of
-  open-answer m' e h =
-      let s = read-accepted r.tested (read_settings b) reads.tested e in
-      let w : settings_of r.settings ≡ s.0 = ap settings_of (reads.settings ∙ ap settings_words_in s.1) in
-      open_done m b whole s.0 s.1 ∙ ap (λ x. (image (opened x), done)) (sym w) ∙ ap (λ x. (x, done)) (sym h)
+  pub open-answer : (m' : List ℕ) (w : SettingsWords) → read_words (read_settings b) ≡ Ok w → m' ≡ image (opened (settings_of w)) → memory_step m (open_with b) ≡ (m', done)
+  open-answer m' w e h =
+      let s = accepted_as (read_settings b) w e in
+      open_done m b whole s.0 s.1 ∙ ap (λ x. (image (opened x), done)) (sym s.2) ∙ ap (λ x. (x, done)) (sym h)

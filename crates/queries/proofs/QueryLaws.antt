@@ -7,9 +7,10 @@ use lib.Dec.{eqb, leb}
 use lib.ListN.{length}
 use borrow.Author.Tests.{leb-false, lt-leb}
 use Rattle.bitrow.specs.Bit.{bit}
+use Rattle.std.specs.Prelude.{Ok, Err, ⊤, Result}
+use Rattle.block.specs.declared.Reason.{Reason}
 use Rattle.block.specs.declared.Refusal.{Refusal}
-use Rattle.block.specs.declared.Tested.TheVariants.{Passed, Refused}
-use Rattle.block.specs.Refusal.{first_refusal}
+use Rattle.block.specs.Refusal.{reason_number, first_refusal}
 use Rattle.model.specs.Table.{Table, on, stands, free}
 use Rattle.model.specs.Rules.{carries}
 use Rattle.model.specs.Model.{container_slots}
@@ -23,21 +24,22 @@ use Rattle.formed.specs.Registry.{model_in, bits_in, registry_in, well_formed}
 use Rattle.formed.proofs.Formed.{formed-entries}
 use Rattle.formed.proofs.Reading.{matrix-in}
 use Rattle.entries.specs.Entries.{free_in, word_under}
+use Rattle.entries.specs.Tables.{container_tabled}
 use Rattle.entries.proofs.PartLabels.{label_of}
 use Rattle.entries.proofs.Keys.{carries-word}
 use Rattle.entries.proofs.FormedEntries.{formed-labels}
 use Rattle.steps.specs.MemoryStep.{memory_step}
 use Rattle.steps.proofs.Outcomes.{step-refused, reaches-says, user-says, counts-answers}
 use Rattle.call_tests.specs.Tests.{slot_test}
-use Rattle.call_tests.proofs.TestLaws.{slot_tests, container_test, container-free-in, container-passed}
+use Rattle.call_tests.proofs.TestLaws.{reason_for, passed_for, slot_tests, container_test, tabled-free, container-passed}
 
 -- ---- a pair of slots
 
 module _ {A : Type 0} (size : ℕ) (t : Table A) (f : ℕ → Bool) (same : (i : ℕ) → i < size → free t i ≡ f i) where
   -- "asking about a pair tests both places for 10 before either for 11"
-  pair-checks : (a b : ℕ) → leb size b ≡ false → first_refusal (pair_checks size t a b) ≡ or_refusal (slot_test size f a) (slot_test size f b)
-  unfolding slot_test or_refusal
-  pair-checks a b k = pick (leb size a) refl ∙ ap (λ s. or_refusal (slot_test size f a) (slot_tests s (f b))) (sym k)
+  pair-checks : (a b : ℕ) → leb size b ≡ false → first_refusal (pair_checks size t a b) ≡ or_refusal (slot_tests (leb size a) (f a)) (slot_tests (leb size b) (f b))
+  unfolding or_refusal
+  pair-checks a b k = pick (leb size a) refl ∙ ap (λ s. or_refusal (slot_tests (leb size a) (f a)) (slot_tests s (f b))) (sym k)
     where
       go : (x y : Bool) → slot_tests false (x || y) ≡ or_refusal (slot_tests false x) (slot_tests false y)
       go true y = refl
@@ -54,23 +56,31 @@ module _ {A : Type 0} (size : ℕ) (t : Table A) (f : ℕ → Bool) (same : (i :
 module _ (m : List ℕ) (formed : well_formed m ≡ true) where
   -- whether a reaches b, where b is a slot of the table
   module _ (a b : ℕ) where
-    module _ (r : Refusal) (k : b < container_slots) where
-      pair-refused : or_refusal (container_test m a) (container_test m b) ≡ Refused r → memory_step m (ask (ask_reaches a b)) ≡ (m, refusal r.number)
+    module _ (r : Reason) (k : b < container_slots) where
+      -- the tests of a slot, with the refusal whole
+      abbrev tests : ℕ → Result ⊤ Refusal
+      tests i = slot_tests (leb container_slots i) (free_in m containers_start container_words i)
+
+      pair-refused : (f : Refusal) → f.reason ≡ r → or_refusal (tests a) (tests b) ≡ Err f → memory_step m (ask (ask_reaches a b)) ≡ (m, refusal (reason_number r))
       unfolding refusals registry_in
-      pair-refused e =
-          step-refused m formed (ask (ask_reaches a b)) r
-          (pair-checks container_slots (model_in m).containers (free_in m containers_start container_words) (container-free-in m) a b (lt-leb container_slots b k) ∙ e)
+      pair-refused f w e =
+          step-refused m formed (ask (ask_reaches a b)) f
+          (pair-checks container_slots (model_in m).containers (free_in m containers_start container_words) (tabled-free (container_tabled m)) a b (lt-leb container_slots b k) ∙ e)
+          ∙ ap (λ x. (m, refusal (reason_number x))) w
 
-      pub reaches-refused-left : container_test m a ≡ Refused r → memory_step m (ask (ask_reaches a b)) ≡ (m, refusal r.number)
-      unfolding or_refusal
-      reaches-refused-left e = pair-refused (ap (λ x. or_refusal x (container_test m b)) e)
+      pub reaches-refused-left : container_test m a ≡ Err r → memory_step m (ask (ask_reaches a b)) ≡ (m, refusal (reason_number r))
+      unfolding slot_test or_refusal
+      reaches-refused-left e = let f = reason_for (tests a) e in pair-refused f.0 f.2 (ap (λ x. or_refusal x (tests b)) f.1)
 
-      pub reaches-refused-right : container_test m a ≡ Passed → container_test m b ≡ Refused r → memory_step m (ask (ask_reaches a b)) ≡ (m, refusal r.number)
-      unfolding or_refusal
-      reaches-refused-right e f = pair-refused (ap (λ x. or_refusal x (container_test m b)) e ∙ f)
+      pub reaches-refused-right : {u : ⊤} → container_test m a ≡ Ok u → container_test m b ≡ Err r → memory_step m (ask (ask_reaches a b)) ≡ (m, refusal (reason_number r))
+      unfolding slot_test or_refusal
+      reaches-refused-right {u} e g =
+          let p = passed_for (tests a) e in
+          let f = reason_for (tests b) g in
+          pair-refused f.0 f.2 (ap (λ x. or_refusal x (tests b)) p ∙ f.1)
 
     -- the stored bit
-    pub reaches-answer : (t : Bool) → container_test m a ≡ Passed → container_test m b ≡ Passed → t ≡ bit (word_at m (row_start a + b / 64)) (b % 64)
+    pub reaches-answer : (t : Bool) {u v : ⊤} → container_test m a ≡ Ok u → container_test m b ≡ Ok v → t ≡ bit (word_at m (row_start a + b / 64)) (b % 64)
         → memory_step m (ask (ask_reaches a b)) ≡ (m, says t)
     unfolding row_bit
     reaches-answer t e f h =
@@ -81,7 +91,7 @@ module _ (m : List ℕ) (formed : well_formed m ≡ true) where
 
   -- ---- a value under the user key
 
-  module _ (c v : ℕ) (e : container_test m c ≡ Passed) where
+  module _ (c v : ℕ) {u : ⊤} (e : container_test m c ≡ Ok u) where
     -- no label has a value above 65,535
     pub user-above : 65535 < v → memory_step m (ask (ask_user c v)) ≡ (m, says false)
     unfolding model_in settings_in

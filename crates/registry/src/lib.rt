@@ -5,8 +5,10 @@ ghost use Rattle.std.specs.Prelude.{◌≡◌};
 ghost use Rattle.store.specs.Layout.{memory_words};
 
 pub use admission::admit;
-pub use answers::{Admitted, Batched, Counted, FilePut, FindingsPut, NextFinding, Outcome, Reply};
+pub use answers::{Admitted, Counts};
 pub use batches::admit_batch;
+pub use block::Reason;
+pub use findings::Put;
 pub use model::Tally;
 pub use opening::open;
 pub use queries::{carries_user, counts, reaches};

@@ -6,50 +6,25 @@ ghost use Rattle.model.specs.Calls.{change, remove_container, remove_policy};
 ghost use Rattle.steps.specs.MemoryStep.{memory_step};
 ghost use Rattle.answers.specs.Answers.{outcome_answer};
 
-use answers::Outcome;
-use block::Tested;
+use block::Reason;
 use model::{ContainerSlot, PolicySlot};
 
-pub fn remove_container(memory: &mut [u64], slot: ContainerSlot) -> Outcome
-    ensures { (memory.new, outcome_answer result) ≡ memory_step memory.old (change (remove_container slot.0)) }
+// Kept: the two share their tests, a line each; the change, and what is promised of it, is the table's own.
+pub fn remove_container(memory: &mut [u64], container: ContainerSlot) -> Result<(), Reason>
+    ensures { (memory.new, outcome_answer result) ≡ memory_step memory.old (change (remove_container container.0)) }
 {
-    let tested = call_tests::test_memory(memory);
-    if let Tested::Refused(by) = tested {
-        return Outcome::Refused(by.number);
-    }
-    let c = slot.0;
-    let named = call_tests::test_slot(
-        memory,
-        store::CONTAINERS,
-        store::CONTAINER_WORDS,
-        store::CONTAINER_SLOTS,
-        c,
-    );
-    if let Tested::Refused(by) = named {
-        return Outcome::Refused(by.number);
-    }
-    clearing::take_container(memory, slot);
-    Outcome::Done
+    call_tests::test_memory(memory)?;
+    call_tests::test_slot(memory, container)?;
+    clearing::take_container(memory, container);
+    Ok(())
 }
 
-pub fn remove_policy(memory: &mut [u64], slot: PolicySlot) -> Outcome
-    ensures { (memory.new, outcome_answer result) ≡ memory_step memory.old (change (remove_policy slot.0)) }
+// Kept: as above.
+pub fn remove_policy(memory: &mut [u64], policy: PolicySlot) -> Result<(), Reason>
+    ensures { (memory.new, outcome_answer result) ≡ memory_step memory.old (change (remove_policy policy.0)) }
 {
-    let tested = call_tests::test_memory(memory);
-    if let Tested::Refused(by) = tested {
-        return Outcome::Refused(by.number);
-    }
-    let q = slot.0;
-    let named = call_tests::test_slot(
-        memory,
-        store::POLICIES,
-        store::POLICY_WORDS,
-        store::POLICY_SLOTS,
-        q,
-    );
-    if let Tested::Refused(by) = named {
-        return Outcome::Refused(by.number);
-    }
-    policy_changes::take_policy(memory, slot);
-    Outcome::Done
+    call_tests::test_memory(memory)?;
+    call_tests::test_slot(memory, policy)?;
+    policy_changes::take_policy(memory, policy);
+    Ok(())
 }

@@ -6,29 +6,22 @@ ghost use Rattle.model.specs.Calls.{change, rebuild, ask, audit};
 ghost use Rattle.steps.specs.MemoryStep.{memory_step};
 ghost use Rattle.answers.specs.Answers.{outcome_answer, reply_answer};
 
-use answers::{Outcome, Reply};
-use block::Tested;
+use block::Reason;
 
 // Whether every stored bit is by the rules.
-pub fn audit(memory: &[u64]) -> Reply
+pub fn audit(memory: &[u64]) -> Result<bool, Reason>
     ensures { (memory.now, reply_answer result) ≡ memory_step memory.now (ask audit) }
 {
-    let tested = call_tests::test_memory(memory);
-    if let Tested::Refused(by) = tested {
-        return Reply::Refused(by.number);
-    }
-    let consistent = audit::is_consistent(memory);
-    Reply::Says(consistent)
+    call_tests::test_memory(memory)?;
+    Ok(audit::is_consistent(memory))
 }
 
 // Every stored bit set by the rules.
-pub fn rebuild(memory: &mut [u64]) -> Outcome
+// Kept: the name of the call; `whole::rebuild` does it once the memory is tested.
+pub fn rebuild(memory: &mut [u64]) -> Result<(), Reason>
     ensures { (memory.new, outcome_answer result) ≡ memory_step memory.old (change rebuild) }
 {
-    let tested = call_tests::test_memory(memory);
-    if let Tested::Refused(by) = tested {
-        return Outcome::Refused(by.number);
-    }
+    call_tests::test_memory(memory)?;
     whole::rebuild(memory);
-    Outcome::Done
+    Ok(())
 }

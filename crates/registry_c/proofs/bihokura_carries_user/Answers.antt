@@ -1,12 +1,12 @@
--- By what `carries_user` promises: yes is 1 and no is 0.
-use Rattle.std.proofs.Common.{sym, ap, ◌∙◌}
-use Rattle.answers.specs.Answers.{reply_answer}
-use Rattle.codes.specs.Codes.{code_of}
+-- By what `carries_user` promises of its answer, of the slot of that number.
+use Rattle.std.proofs.Common.{ap, ◌∙◌}
+use Rattle.model.specs.declared.ContainerSlot.{ContainerSlot}
+use Rattle.model.specs.Calls.{ask, ask_user}
+use Rattle.steps.specs.MemoryStep.{memory_step}
 use Rattle.registry_c.proofs.CodeLaws.{coded}
 use Rattle.registry_c.proofs.bihokura_carries_user.Goals as goal
 
-pub returns-in-Refused : goal.returns-in-Refused
-returns-in-Refused c = coded _ _ _ _ _ c.carries_user-answer.ensures (c.refused.ensures ∙ ap (λ o. code_of (reply_answer o)) (sym c.in-Refused.is))
-
-pub returns-in-Says : goal.returns-in-Says
-returns-in-Says c = coded _ _ _ _ _ c.carries_user-answer.ensures (c.truth.ensures ∙ ap (λ o. code_of (reply_answer o)) (sym c.in-Says.is))
+pub returns : goal.returns
+returns c =
+    let step = c.carries_user.ensures ∙ ap (λ (s : ContainerSlot). memory_step c.args.memory.now (ask (ask_user s.0 c.args.value))) c.slot.ensures in
+    coded _ _ _ _ _ step c.reply_code.ensures

@@ -1,12 +1,6 @@
--- By what `open` promises: each case of its answer has its number.
-use Rattle.std.proofs.Common.{sym, ap, ◌∙◌}
-use Rattle.answers.specs.Answers.{outcome_answer}
-use Rattle.codes.specs.Codes.{code_of}
+-- By what `open` promises of its answer.
 use Rattle.registry_c.proofs.CodeLaws.{coded}
 use Rattle.registry_c.proofs.bihokura_open.Goals as goal
 
-pub returns-in-Refused : goal.returns-in-Refused
-returns-in-Refused c = coded _ _ _ _ _ c.open-answer.ensures (c.refused.ensures ∙ ap (λ o. code_of (outcome_answer o)) (sym c.in-Refused.is))
-
-pub returns-in-Done : goal.returns-in-Done
-returns-in-Done c = coded _ _ _ _ _ c.open-answer.ensures (ap (λ o. code_of (outcome_answer o)) (sym c.in-Done.is))
+pub returns : goal.returns
+returns c = coded _ _ _ _ _ c.open.ensures c.outcome_code.ensures

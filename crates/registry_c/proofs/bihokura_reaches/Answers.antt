@@ -1,12 +1,12 @@
--- By what `reaches` promises: yes is 1 and no is 0.
-use Rattle.std.proofs.Common.{sym, ap, ◌∙◌}
-use Rattle.answers.specs.Answers.{reply_answer}
-use Rattle.codes.specs.Codes.{code_of}
+-- By what `reaches` promises of its answer, of the slots of these numbers.
+use Rattle.std.proofs.Common.{ap₂, ◌∙◌}
+use Rattle.model.specs.declared.ContainerSlot.{ContainerSlot}
+use Rattle.model.specs.Calls.{ask, ask_reaches}
+use Rattle.steps.specs.MemoryStep.{memory_step}
 use Rattle.registry_c.proofs.CodeLaws.{coded}
 use Rattle.registry_c.proofs.bihokura_reaches.Goals as goal
 
-pub returns-in-Refused : goal.returns-in-Refused
-returns-in-Refused c = coded _ _ _ _ _ c.reaches-answer.ensures (c.refused.ensures ∙ ap (λ o. code_of (reply_answer o)) (sym c.in-Refused.is))
-
-pub returns-in-Says : goal.returns-in-Says
-returns-in-Says c = coded _ _ _ _ _ c.reaches-answer.ensures (c.truth.ensures ∙ ap (λ o. code_of (reply_answer o)) (sym c.in-Says.is))
+pub returns : goal.returns
+returns c =
+    let step = c.reaches.ensures ∙ ap₂ (λ (s t : ContainerSlot). memory_step c.args.memory.now (ask (ask_reaches s.0 t.0))) c.slot.ensures c.slot-2.ensures in
+    coded _ _ _ _ _ step c.reply_code.ensures

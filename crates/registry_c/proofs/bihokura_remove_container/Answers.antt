@@ -1,12 +1,12 @@
--- By what `remove_container` promises: each case of its answer has its number.
-use Rattle.std.proofs.Common.{sym, ap, ◌∙◌}
-use Rattle.answers.specs.Answers.{outcome_answer}
-use Rattle.codes.specs.Codes.{code_of}
+-- By what `remove_container` promises of its answer, of the slot of that number.
+use Rattle.std.proofs.Common.{ap, ◌∙◌}
+use Rattle.model.specs.declared.ContainerSlot.{ContainerSlot}
+use Rattle.model.specs.Calls.{change, remove_container}
+use Rattle.steps.specs.MemoryStep.{memory_step}
 use Rattle.registry_c.proofs.CodeLaws.{coded}
 use Rattle.registry_c.proofs.bihokura_remove_container.Goals as goal
 
-pub returns-in-Refused : goal.returns-in-Refused
-returns-in-Refused c = coded _ _ _ _ _ c.remove_container-answer.ensures (c.refused.ensures ∙ ap (λ o. code_of (outcome_answer o)) (sym c.in-Refused.is))
-
-pub returns-in-Done : goal.returns-in-Done
-returns-in-Done c = coded _ _ _ _ _ c.remove_container-answer.ensures (ap (λ o. code_of (outcome_answer o)) (sym c.in-Done.is))
+pub returns : goal.returns
+returns c =
+    let step = c.remove_container.ensures ∙ ap (λ (s : ContainerSlot). memory_step c.args.memory.now (change (remove_container s.0))) c.slot.ensures in
+    coded _ _ _ _ _ step c.outcome_code.ensures

@@ -1,2 +1,0 @@
--- The laws of admit.
-pub mod BlockLaws
