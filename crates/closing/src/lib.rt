@@ -8,32 +8,29 @@ ghost use Rattle.findings.specs.Steps.{cursor_place};
 ghost use Rattle.sheets.specs.Told.{Tells};
 ghost use Rattle.sheets.specs.Closing.{count_step, listing, list_step};
 
-use answers::{Counted, FindingsPut};
 use findings::Cursor;
 use sheets::{State, Told};
 
 // Puts the counts.
+// Kept: the room for a line is asked here and of each step: a type for the buffer would be taken apart wherever its rest is lent.
+#[tactic(auto, unfolding(sheets::specs::Closing::count_step))]
 pub fn tell_counts(memory: &[u64], out: &mut [u8]) -> Told
     requires { 128 ≤ length out.old }
     ensures { Tells (count_step memory.now) out.old out.new result }
 {
-    let counted = queries::counts(memory);
-    match counted {
-        Counted::Refused(_) => Told {
+    match queries::counts(memory) {
+        Ok(counts) => Told {
+            state: State::Listing(Cursor {
+                kind: 0,
+                a: 0,
+                b: 0,
+            }),
+            put: text::put_counts(out, counts.containers, counts.policies, counts.pairs),
+        },
+        Err(_) => Told {
             state: State::Finished,
             put: 0,
         },
-        Counted::Counts(containers, policies, pairs) => {
-            let put = text::put_counts(out, containers, policies, pairs);
-            Told {
-                state: State::Listing(Cursor {
-                    kind: 0,
-                    a: 0,
-                    b: 0,
-                }),
-                put,
-            }
-        }
     }
 }
 
@@ -43,40 +40,32 @@ fn tell_findings_by(memory: &[u64], numbers: &mut [u64], out: &mut [u8], cursor:
     ensures { Tells (listing (length numbers.old) (memory_step memory.now (ask (list_findings (cursor_place cursor) (length numbers.old)))).1) out.old out.new result }
 {
     let wanted = numbers.len();
-    let answer = walks::findings(memory, cursor, numbers);
-    match answer {
-        FindingsPut::Refused(_) => Told {
+    let Ok(found) = walks::findings(memory, cursor, numbers) else {
+        return Told {
             state: State::Finished,
             put: 0,
-        },
-        FindingsPut::Findings(count, next) => {
-            let put = text::put_findings(out, &numbers[..count]);
-            if count < wanted {
-                return Told {
-                    state: State::Finished,
-                    put,
-                };
-            }
-            Told {
-                state: State::Listing(next),
-                put,
-            }
-        }
+        };
+    };
+    let put = text::put_findings(out, &numbers[..found.count]);
+    if found.count < wanted {
+        return Told {
+            state: State::Finished,
+            put,
+        };
+    }
+    Told {
+        state: State::Listing(found.cursor),
+        put,
     }
 }
 
-fn no_numbers() -> [u64; 2048]
-    ensures { 2048 ≡ length result }
-{
-    [0; 2048]
-}
-
 // Puts the lines of the findings after the cursor, as many as find room.
+#[tactic(auto, unfolding(sheets::specs::Closing::list_step))]
 pub fn tell_findings(memory: &[u64], out: &mut [u8], cursor: Cursor) -> Told
     requires { 128 ≤ length out.old }
     ensures { Tells (list_step memory.now (length out.old) cursor) out.old out.new result }
 {
-    let mut numbers = no_numbers();
+    let mut numbers = [0; 2048];
     let lines = cuts::lines_in(out.len());
     tell_findings_by(memory, &mut numbers[..lines], out, cursor)
 }

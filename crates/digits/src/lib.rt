@@ -1,67 +1,65 @@
-// Words and numbers, put into a buffer.
+// Words and numbers, put at the start of a buffer.
 #![tactic(auto)]
 
 ghost use Rattle.std.specs.Prelude.{◌≡◌, ◌+◌, ◌≤◌, ◌<◌, length};
 ghost use Rattle.buffer.specs.Buffer.{Puts};
 ghost use Rattle.digits.specs.Decimal.{decimal, ended};
 
-// Puts a word and then a byte at `at`, and answers the position after them.
-pub fn put_word(out: &mut [u8], at: usize, word: &[u8], end: u8) -> usize
-    requires { at + length word.now < length out.old }
-    ensures puts { Puts out.old at (ended word.now end) out.new result }
-    ensures value { result ≡ at + length word.now + 1 }
+// Puts a word and then a byte, and answers how many bytes those are.
+pub fn put_word(out: &mut [u8], word: &[u8], end: u8) -> usize
+    requires { length word.now < length out.old }
+    ensures puts { Puts out.old 0 (ended word.now end) out.new result }
+    ensures value { result ≡ length word.now + 1 }
 {
     let n = word.len();
-    let mut i = 0;
-    while i < n {
-        out[at + i] = word[i];
-        i += 1;
-    }
-    out[at + n] = end;
-    at + n + 1
+    out[..n].copy_from_slice(word);
+    out[n] = end;
+    n + 1
 }
 
-// Puts a number in decimal and then a byte, by way of 20 bytes for its digits, the last one first.
-fn put_digits(out: &mut [u8], at: usize, digits: &mut [u8], n: u64, end: u8) -> usize
-    requires { (at + length (decimal n) < length out.old) × (length digits.old ≡ 20) }
-    ensures puts { Puts out.old at (ended (decimal n) end) out.new result }
-    ensures lower_bound { (at < result) × (result ≤ at + 21) }
+fn digit(n: u64) -> u8
+    requires { n < 10 }
+    ensures { result ≡ 48 + n }
 {
-    let mut rest = n;
-    let mut i = 19;
-    while 10 <= rest {
-        digits[i] = (48 + rest % 10) as u8;
-        rest /= 10;
-        i -= 1;
-    }
-    digits[i] = (48 + rest) as u8;
-    put_word(out, at, &digits[i..], end)
+    // Kept: a test of the number, as `try_from` makes, would never fail here.
+    b'0' + n as u8
 }
 
-// Puts a number in decimal and then a byte. Numbers of up to three digits, nearly all of them, are put straight.
-pub fn put_number(out: &mut [u8], at: usize, n: u64, end: u8) -> usize
-    requires { at + length (decimal n) < length out.old }
-    ensures puts { Puts out.old at (ended (decimal n) end) out.new result }
-    ensures lower_bound { (at < result) × (result ≤ at + 21) }
+// Puts a number in decimal. Numbers of up to three digits, nearly all of them, are put straight.
+#[tactic(auto, using(crate::proofs::DecimalLaws::decimals))]
+fn put_digits(out: &mut [u8], n: u64) -> usize
+    requires { length (decimal n) ≤ length out.old }
+    ensures { Puts out.old 0 (decimal n) out.new result }
 {
     if n < 10 {
-        out[at] = (48 + n) as u8;
-        out[at + 1] = end;
-        return at + 2;
+        out[0] = digit(n);
+        return 1;
     }
     if n < 100 {
-        out[at] = (48 + n / 10) as u8;
-        out[at + 1] = (48 + n % 10) as u8;
-        out[at + 2] = end;
-        return at + 3;
+        out[0] = digit(n / 10);
+        out[1] = digit(n % 10);
+        return 2;
     }
     if n < 1000 {
-        out[at] = (48 + n / 100) as u8;
-        out[at + 1] = (48 + n % 100 / 10) as u8;
-        out[at + 2] = (48 + n % 100 % 10) as u8;
-        out[at + 3] = end;
-        return at + 4;
+        out[0] = digit(n / 100);
+        out[1] = digit(n / 10 % 10);
+        out[2] = digit(n % 10);
+        return 3;
     }
-    let mut digits = [0u8; 20];
-    put_digits(out, at, &mut digits, n, end)
+    let last = put_digits(out, n / 10);
+    out[last] = digit(n % 10);
+    last + 1
+}
+
+// Puts a number in decimal and then a byte.
+#[tactic(auto, using(crate::proofs::DecimalLaws::widths))]
+pub fn put_decimal(out: &mut [u8], n: u64, end: u8) -> usize
+    requires { length (decimal n) < length out.old }
+    ensures puts { Puts out.old 0 (ended (decimal n) end) out.new result }
+    ensures value { result ≡ length (decimal n) + 1 }
+    ensures lower_bound { (0 < result) × (result ≤ 21) }
+{
+    let digits = put_digits(out, n);
+    out[digits] = end;
+    digits + 1
 }

@@ -20,8 +20,9 @@ use Rattle.steps.specs.Batch.{admit_on, BatchIsAdmissions}
 use Rattle.steps.proofs.NumbersMet.{Positive, admit-positive}
 use Rattle.steps.proofs.Outcomes.{step-size, step-formed}
 use Rattle.steps.proofs.Batch.{batch-is-admissions}
-use Rattle.answers.specs.declared.Outcome.{Outcome}
-use Rattle.answers.specs.declared.Outcome.TheVariants.{Refused, Done}
+use Rattle.std.specs.Prelude.{Result, Ok, Err}
+use Rattle.block.specs.declared.Reason.{Reason}
+use Rattle.block.specs.Refusal.{reason_number}
 use Rattle.answers.specs.Answers.{batched_answer}
 use Rattle.text.specs.Lines.{refused_line, refused_by, number_line, pair_lines}
 use Rattle.text.proofs.LineLaws.{number-taken, number-refused}
@@ -91,14 +92,15 @@ module _ (m bs : List ℕ) (k : ℕ) (t : Tally) (few : length bs ≤ 65536) (wh
   lines_of n i j = ap₂ (λ (b : List ℕ) (c : List (ℕ × ℕ)). (b, pair_lines n c)) i j ∙ lines-admitted (blocks_of bs) m n
 
   -- what the call answers, which leaves the list as l
-  module _ (m' l : List ℕ) (o : Outcome) (u : Tally) (e : (m', batched_answer o (take (2 * length (blocks_of bs)) l) u) ≡ batch_said) where
-    known : (a : Outcome) → o ≡ a → (m', batched_answer a (take (2 * length (blocks_of bs)) l) u) ≡ batch_said
-    known a q = ap (λ (x : Outcome). (m', batched_answer x (take (2 * length (blocks_of bs)) l) u)) (sym q) ∙ e
+  module _ (m' l : List ℕ) (o : Result Tally Reason) (e : (m', batched_answer o (take (2 * length (blocks_of bs)) l)) ≡ batch_said) where
+    known : (a : Result Tally Reason) → o ≡ a → (m', batched_answer a (take (2 * length (blocks_of bs)) l)) ≡ batch_said
+    known a q = ap (λ (x : Result Tally Reason). (m', batched_answer x (take (2 * length (blocks_of bs)) l))) (sym q) ∙ e
 
     -- refused: each block has its number
-    pub batch-declined : {x : List ℕ} {r : ℕ} → o ≡ Refused r → x ≡ replicate k r → (n : ℕ) → (m', pair_lines n (pairs_of x)) ≡ admits_all m n (blocks_of bs)
+    pub batch-declined : {x : List ℕ} {why : Reason} → o ≡ Err why → x ≡ replicate k (reason_number why) → (n : ℕ) → (m', pair_lines n (pairs_of x)) ≡ admits_all m n (blocks_of bs)
     unfolding batch_answer
-    batch-declined {x} {r} q w n =
+    batch-declined {x} {why} q w n =
+        let r = reason_number why in
         batch-or (λ (b : List ℕ × Answer). (m', refusal r) ≡ b → (m', pair_lines n (pairs_of x)) ≡ admits_all m n (blocks_of bs))
         (λ s positive declined y.
         let a : refusal r ≡ refusal s = ap (λ (b : List ℕ × Answer). b.1) y in
@@ -108,12 +110,12 @@ module _ (m bs : List ℕ) (k : ℕ) (t : Tally) (few : length bs ≤ 65536) (wh
         (λ y.
         let a : refusal r ≡ batch_answer t (run admit_on m (blocks_of bs)).1 = ap (λ (b : List ℕ × Answer). b.1) y in
         let z : ◌≡◌ {A = ℕ} 0 1 = cc in absurd (omega (arith, z)))
-        (known (Refused r) q)
+        (known (Err why) q)
 
     -- done: the numbers of each block stand in the list
-    pub batch-admitted : o ≡ Done → length l ≡ k → (n : ℕ) → (m', pair_lines n (pairs_of l)) ≡ admits_all m n (blocks_of bs)
+    pub batch-admitted : {u : Tally} → o ≡ Ok u → length l ≡ k → (n : ℕ) → (m', pair_lines n (pairs_of l)) ≡ admits_all m n (blocks_of bs)
     unfolding batch_answer
-    batch-admitted q h n =
+    batch-admitted {u} q h n =
         batch-or (λ (b : List ℕ × Answer). (m', batch_put (pairs_of (take (2 * length (blocks_of bs)) l)) u) ≡ b → (m', pair_lines n (pairs_of l)) ≡ admits_all m n (blocks_of bs))
         (λ s positive declined y.
         let a : batch_put (pairs_of (take (2 * length (blocks_of bs)) l)) u ≡ refusal s = ap (λ (b : List ℕ × Answer). b.1) y in
@@ -123,4 +125,4 @@ module _ (m bs : List ℕ) (k : ℕ) (t : Tally) (few : length bs ≤ 65536) (wh
         let v : pairs_of (take (2 * length (blocks_of bs)) l) ≡ map pair_of (run admit_on m (blocks_of bs)).1 = cc in
         let w : take (2 * length (blocks_of bs)) l ≡ l = take_all (2 * length (blocks_of bs)) l (omega (arith, h, numbers)) in
         lines_of n (ap (λ (b : List ℕ × Answer). b.0) y) (ap pairs_of (sym w) ∙ v))
-        (known Done q)
+        (known (Ok u) q)

@@ -1,5 +1,5 @@
 -- How the pump stands: what was written of the sheet, and what of the input is still to come.
-use Rattle.std.proofs.Common.{◌≡◌, Bool, true, ℕ, ◌+◌, ◌-◌, ◌^◌, ◌≤◌, ◌<◌, List, [], ◌++◌, Option, None, Some, IfSome, length, take, drop, slice_range, refl, sym, ap, ◌∙◌, subst, append_assoc, append-nil, arith, length-append}
+use Rattle.std.proofs.Common.{◌≡◌, Bool, true, ℕ, zero, suc, ◌+◌, ◌-◌, ◌^◌, ◌≤◌, ◌<◌, List, [], ◌++◌, Option, None, Some, IfSome, length, take, drop, slice_range, refl, sym, ap, ◌∙◌, subst, append_assoc, append-nil, arith, length-append, length-take, length-drop}
 use Rattle.std.proofs.Math.Seq.{take-append_seam, take-append-add}
 use Rattle.std.proofs.lemmas.Bool.{false≢true}
 use Rattle.std.proofs.lemmas.List.{drop-take, drop-drop, take-take, take-append-le}
@@ -16,7 +16,8 @@ use Rattle.sheets.specs.Step.{report_step, start_state, finished_in}
 use Rattle.sheets.proofs.Due.{Due, Onward, before-first}
 use Rattle.sheets.proofs.Onward.{step-onward}
 use Rattle.streams.specs.declared.Input.{Input}
-use Rattle.streams.specs.Bytes.{to_come, TellsEnd, AppendsSome}
+use Rattle.streams.specs.declared.Input.TheVariants.{Unused, Ended}
+use Rattle.streams.specs.Bytes.{Within, ended_in, piece_of, left_in, after, to_come, TellsEnd, AppendsSome}
 
 -- Of the sheet of `input`: `text` was written, and `rest` is due in the state s, with `coming` of the input still to come.
 pub record Standing (input : List ℕ) (old new : Option (List ℕ)) (left : Option (List ℕ)) (s : State) (m k : List ℕ) : Type 0 where
@@ -49,15 +50,10 @@ starts-with input w m k h size short = record {
   due = record { part = omega arith; few = omega (arith, short); after = before-first refl h refl };
 }
 
-none-come : (bytes q : List ℕ) (input : Input) → input.at ≡ 0 → input.end ≡ 0 → Some q ≡ to_come bytes input (Some q)
-none-come bytes q input a e = rw (a, e) refl
-
-pub starts : (known w : Option (List ℕ)) (m k bytes : List ℕ) (input : Input) → input.at ≡ 0 → input.end ≡ 0 → length m ≡ memory_words → length k ≡ 512
-    → Stands known (length bytes) w w (to_come bytes input known) start_state m k
-starts None w m k bytes input a e h size = record { holds = tt }
-starts (Some whole) w m k bytes input a e h size = record {
-  holds = λ room short. subst (λ l. Standing whole w w l start_state m k) (none-come bytes whole input a e) (starts-with whole w m k h size short);
-}
+pub starts : (known w : Option (List ℕ)) (m k bytes : List ℕ) → length m ≡ memory_words → length k ≡ 512
+    → Stands known (length bytes) w w (to_come bytes (Unused 0 0) known) start_state m k
+starts None w m k bytes h size = record { holds = tt }
+starts (Some whole) w m k bytes h size = record { holds = λ room short. starts-with whole w m k h size short }
 
 -- ---- a refill
 
@@ -93,11 +89,37 @@ put-taken d t e stop p =
     let n : stop ≡ length t = omega (arith, p.stops) in
     rw (n, p.text) (take-append_seam t (drop stop d))
 
+-- of the first bytes of a text
+pub cut_short : (a b : Option (List ℕ)) (e : List ℕ) (n : ℕ) → AppendsSome a b (take n e) (length (take n e)) → AppendsSome a b e n
+cut_short a b e n w =
+    let few : w.0 ≤ n = omega (arith, w.1, length-take n e) in
+    (w.0, few, subst (Appends a b) (take-take w.0 n e few) w.2)
+
 -- what is left of the piece
-dropped : (bytes : List ℕ) (a u e : ℕ) → a + u ≤ e → slice_range bytes (a + u) e ≡ drop u (slice_range bytes a e)
-dropped bytes a u e h =
+piece-after : (bytes : List ℕ) (from : Input) (u : ℕ) → u ≤ left_in from → piece_of bytes (after from u) ≡ drop u (piece_of bytes from)
+piece-after bytes (Unused a e) u h =
     let n : e - a ≡ u + (e - (a + u)) = omega arith in
     rw (n, drop-take u (e - (a + u)) (drop a bytes), drop-drop u a bytes) refl
+piece-after bytes Ended zero h = refl
+piece-after bytes Ended (suc u) h = absurd (omega arith)
+
+pub piece-within : (bytes : List ℕ) (from : Input) → length (piece_of bytes from) ≤ left_in from
+piece-within bytes (Unused a e) = omega (arith, length-take (e - a) (drop a bytes))
+piece-within bytes Ended = omega arith
+
+pub piece_fed : (bytes : List ℕ) (from : Input) → Within from (length bytes) → left_in from ≤ length (piece_of bytes from)
+piece_fed bytes (Unused a e) h = omega (arith, length-take (e - a) (drop a bytes), length-drop a bytes)
+piece_fed bytes Ended h = omega arith
+
+pub within_after : (from : Input) (room u : ℕ) → Within from room → u ≤ left_in from → Within (after from u) room
+within_after (Unused a e) room u w h = (omega arith, w.1)
+within_after Ended room u w h = tt
+
+pub ended-after : (from : Input) (u : ℕ) → ended_in (after from u) ≡ ended_in from
+ended-after (Unused a e) u = refl
+ended-after Ended u = refl
+
+pub ruleset pieces = (piece-within, piece_fed)
 
 due-at : (s t : State) (m n k l i r : List ℕ) → s ≡ t → m ≡ n → k ≡ l → Due t n l i r → Due s m k i r
 due-at s t m n k l i r e f g d = rw (e, f, g) d
@@ -139,9 +161,9 @@ module _ (input : List ℕ) (old new : Option (List ℕ)) (s : State) (m k p q :
       (length st.text + j, omega (arith, n, h), subst (Appends old next) (sym e) (Appends-trans old new next st.text (take j x.text) st.written w))
 
 -- the same of a piece in a buffer
-module _ (old new : Option (List ℕ)) (s : State) (m k bytes o e n l : List ℕ) (from : Input) (done : Stepped) (does : Does (report_step m k (slice_range bytes from.at from.end) from.ended (length o) s) n l o e done) where
+module _ (old new : Option (List ℕ)) (s : State) (m k bytes o e n l : List ℕ) (from : Input) (done : Stepped) (does : Does (report_step m k (piece_of bytes from) (ended_in from) (length o) s) n l o e done) where
   abbrev y : Left
-  y = report_step m k (slice_range bytes from.at from.end) from.ended (length o) s
+  y = report_step m k (piece_of bytes from) (ended_in from) (length o) s
 
   all-put : take done.put e ≡ y.text
   all-put = put-taken o y.text e done.put does.text
@@ -152,35 +174,35 @@ module _ (old new : Option (List ℕ)) (s : State) (m k bytes o e n l : List ℕ
   put-length : done.put ≡ length y.text
   put-length = omega (arith, does.text.stops)
 
-  stepped-one : (input : List ℕ) (left next : Option (List ℕ)) (after : Input) → TellsEnd from left → from.at + done.used ≤ from.end → after.at ≡ from.at + done.used → after.end ≡ from.end
-      → Appends new next (take done.put e) → Standing input old new (to_come bytes from left) s m k → Standing input old next (to_come bytes after left) done.state n l
-  stepped-one input None next after told h a b w st = absurd (no-bytes st.left-is)
-  stepped-one input (Some q) next after told h a b w st =
-      let used : slice_range bytes after.at after.end ≡ drop y.used (slice_range bytes from.at from.end) =
-      rw (a, b, dropped bytes from.at done.used from.end h, does.used) refl in
-      after-all input old new s m k (slice_range bytes from.at from.end) q from.ended (length o) st told next (to_come bytes after (Some q)) done.state n l
+  stepped-one : (input : List ℕ) (left next : Option (List ℕ)) → TellsEnd from left → done.used ≤ left_in from
+      → Appends new next (take done.put e) → Standing input old new (to_come bytes from left) s m k → Standing input old next (to_come bytes (after from done.used) left) done.state n l
+  stepped-one input None next told h w st = absurd (no-bytes st.left-is)
+  stepped-one input (Some q) next told h w st =
+      let used : piece_of bytes (after from done.used) ≡ drop y.used (piece_of bytes from) =
+      piece-after bytes from done.used h ∙ ap (λ u. drop u (piece_of bytes from)) does.used in
+      after-all input old new s m k (piece_of bytes from) q (ended_in from) (length o) st told next (to_come bytes (after from done.used) (Some q)) done.state n l
       (subst (Appends new next) all-put w) (ap (λ i. Some (i ++ q)) used) does.state does.memory does.block
 
   failed-one : (input : List ℕ) (left next : Option (List ℕ)) → TellsEnd from left → AppendsSome new next e done.put → Standing input old new (to_come bytes from left) s m k
       → AppendsSome old next (sheet input) (length (sheet input))
   failed-one input None next told w st = absurd (no-bytes st.left-is)
   failed-one input (Some q) next told w st =
-      after-some input old new s m k (slice_range bytes from.at from.end) q from.ended (length o) st told next w.0
+      after-some input old new s m k (piece_of bytes from) q (ended_in from) (length o) st told next w.0
       (omega (arith, w.1, put-length)) (subst (Appends new next) (some-put w.0 w.1) w.2)
 
 -- All of its text was written.
-pub stepped : {known old new next : Option (List ℕ)} {room : ℕ} {s : State} {m k n l o e : List ℕ} {done : Stepped} (bytes : List ℕ) (left : Option (List ℕ)) (from after : Input)
-    → Does (report_step m k (slice_range bytes from.at from.end) from.ended (length o) s) n l o e done → (0 < room → TellsEnd from left)
-    → from.at + done.used ≤ from.end → after.at ≡ from.at + done.used → after.end ≡ from.end → Appends new next (take done.put e)
-    → Stands known room old new (to_come bytes from left) s m k → Stands known room old next (to_come bytes after left) done.state n l
-stepped {known = None} bytes left from after does told h a b w st = record { holds = tt }
-stepped {known = Some input} {old = old} {new = new} {next = next} {s = s} {m = m} {k = k} {n = n} {l = l} {o = o} {e = e} {done = done} bytes left from after does told h a b w st = record {
-  holds = λ some short. stepped-one old new s m k bytes o e n l from done does input left next after (told some) h a b w (st.holds some short);
+pub stepped : {known old new next : Option (List ℕ)} {room : ℕ} {s : State} {m k n l o e : List ℕ} {done : Stepped} (bytes : List ℕ) (left : Option (List ℕ)) (from : Input)
+    → Does (report_step m k (piece_of bytes from) (ended_in from) (length o) s) n l o e done → (0 < room → TellsEnd from left)
+    → done.used ≤ left_in from → Appends new next (take done.put e)
+    → Stands known room old new (to_come bytes from left) s m k → Stands known room old next (to_come bytes (after from done.used) left) done.state n l
+stepped {known = None} bytes left from does told h w st = record { holds = tt }
+stepped {known = Some input} {old = old} {new = new} {next = next} {s = s} {m = m} {k = k} {n = n} {l = l} {o = o} {e = e} {done = done} bytes left from does told h w st = record {
+  holds = λ some short. stepped-one old new s m k bytes o e n l from done does input left next (told some) h w (st.holds some short);
 }
 
 -- Some of its text was written.
 pub failed : {known old new : Option (List ℕ)} {room : ℕ} {s : State} {m k n l o e : List ℕ} {done : Stepped} (bytes : List ℕ) (left next : Option (List ℕ)) (from : Input)
-    → Does (report_step m k (slice_range bytes from.at from.end) from.ended (length o) s) n l o e done → (0 < room → TellsEnd from left)
+    → Does (report_step m k (piece_of bytes from) (ended_in from) (length o) s) n l o e done → (0 < room → TellsEnd from left)
     → AppendsSome new next e done.put → Stands known room old new (to_come bytes from left) s m k
     → IfSome known (λ input. 0 < room → length input < 2 ^ 64 → AppendsSome old next (sheet input) (length (sheet input)))
 failed {known = None} bytes left next from does told w st = tt

@@ -35,6 +35,7 @@ impl fmt::Display for Failure {
 }
 
 // Writes the whole sheet, or its first bytes and says why no more. Each turn, the state has less ahead.
+#[tactic(auto, using(crate::proofs::Standing::pieces))]
 fn pump<R: Read, W: Write>(
     clock: &impl Clock,
     reader: &mut R,
@@ -50,19 +51,19 @@ fn pump<R: Read, W: Write>(
     ensures part { OnErr result (IfSome (R.remaining reader.old) (λ input. 0 < length bytes.old → length input < 2 ^ 64
         → AppendsSome (W.contents writer.old) (W.contents writer.new) (sheet input) (length (sheet input)))) }
 {
-    let mut state = report::start();
+    let mut state = report::start_state();
     let mut input = streams::nothing_read();
+    // Kept: the state says when the sheet is whole, and no iterator can lend the memory and the buffers to each step.
     while !report::finished(state) {
         let next = match streams::refill(clock, reader, bytes, input) {
             Ok(next) => next,
             Err(e) => return Err(Failure::Unread(e)),
         };
-        let piece = &bytes[next.at..next.end];
-        let done = report::step(memory, block, piece, next.ended, out, state);
-        if let Err(e) = streams::write(clock, writer, out, done.put) {
+        let done = report::step(memory, block, next.piece(bytes), next.ended(), out, state);
+        if let Err(e) = streams::write_whole(clock, writer, &out[..done.put]) {
             return Err(Failure::Unwritten(e));
         }
-        input = streams::used(next, done.used);
+        input = next.used(done.used);
         state = done.state;
     }
     Ok(())

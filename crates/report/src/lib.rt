@@ -10,7 +10,7 @@ ghost use Rattle.sheets.specs.Step.{start_state, finished_in, report_step, start
 pub use sheets::{State, Stepped};
 
 // No block was taken.
-pub fn start() -> State
+pub fn start_state() -> State
     ensures { result ≡ start_state }
 {
     State::Taking(0, 0)
@@ -20,15 +20,13 @@ pub fn start() -> State
 pub fn finished(state: State) -> bool
     ensures { result ≡ finished_in state }
 {
-    match state {
-        State::Taking(_, _) => false,
-        State::Counting => false,
-        State::Listing(_) => false,
-        State::Finished => true,
-    }
+    matches!(&state, State::Finished)
 }
 
 // One block at most of a piece of input, after n blocks and f bytes of the next.
+// Kept: a struct of the two numbers would be no plainer: the state has them as the fields of one of its cases, and would be taken apart
+// and put together at each step.
+#[tactic(auto, unfolding(sheets::specs::Pieces::take_one, sheets::specs::Pieces::take_with))]
 fn take_one(
     memory: &mut [u64],
     block: &mut [u8],
@@ -49,9 +47,9 @@ fn take_one(
             put: 0,
         };
     }
-    let used = cuts::share(f, piece.len());
-    cuts::copy(block, f, piece, used);
+    let used = piece.len().min(512 - f);
     let bytes = f + used;
+    block[f..bytes].copy_from_slice(&piece[..used]);
     if cuts::waits(bytes, ended) {
         return Stepped {
             state: State::Taking(n, bytes),
@@ -60,24 +58,13 @@ fn take_one(
         };
     }
     if bytes == 0 {
-        let told = cuts::end_after(out, n);
-        let state = told.state;
-        return Stepped {
-            state,
-            used,
-            put: told.put,
-        };
+        return cuts::end_after(out, n).using(used);
     }
-    let told = intake::take_block(memory, &block[..bytes], out, n);
-    let state = told.state;
-    Stepped {
-        state,
-        used,
-        put: told.put,
-    }
+    intake::feed_block(memory, &block[..bytes], out, n).using(used)
 }
 
 // A piece of input after n blocks and f bytes of the next: whole blocks at once, as far as their lines find room, or one at most.
+#[tactic(auto, unfolding(sheets::specs::Pieces::take_step))]
 fn take(
     memory: &mut [u64],
     block: &mut [u8],
@@ -96,8 +83,9 @@ fn take(
         return take_one(memory, block, piece, ended, out, n, f);
     }
     let used = 512 * blocks;
-    let put = intake::take_blocks(memory, &piece[..used], out, n);
+    let put = intake::feed_blocks(memory, &piece[..used], out, n);
     Stepped {
+        // Kept: a `usize` has 64 bits, and has no `u64::from`.
         state: State::Taking(n + blocks as u64, 0),
         used,
         put,
@@ -106,6 +94,7 @@ fn take(
 
 // Takes a piece of the input, or a part of it, or puts some text. `ended` says that the input ends with this piece; what was not used
 // of it is to be lent again. Of whole blocks a step takes all, at most 128, whose lines find room, and has put the line of each that was refused.
+#[tactic(auto, unfolding(sheets::specs::Step::report_step))]
 pub fn step(
     memory: &mut [u64],
     block: &mut [u8],
@@ -121,24 +110,8 @@ pub fn step(
 {
     match state {
         State::Taking(n, f) => take(memory, block, piece, ended, out, n, f),
-        State::Counting => {
-            let told = closing::tell_counts(memory, out);
-            let state = told.state;
-            Stepped {
-                state,
-                used: 0,
-                put: told.put,
-            }
-        }
-        State::Listing(cursor) => {
-            let told = closing::tell_findings(memory, out, cursor);
-            let state = told.state;
-            Stepped {
-                state,
-                used: 0,
-                put: told.put,
-            }
-        }
+        State::Counting => closing::tell_counts(memory, out).using(0),
+        State::Listing(cursor) => closing::tell_findings(memory, out, cursor).using(0),
         State::Finished => Stepped {
             state: State::Finished,
             used: 0,

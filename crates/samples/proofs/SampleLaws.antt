@@ -1,20 +1,21 @@
 -- What the stores leave: labels after labels, a body over zeros, the checksum after it.
-use Rattle.std.proofs.Common.{◌≡◌, ℕ, zero, suc, ◌+◌, ◌-◌, ◌*◌, ◌/◌, ◌%◌, ◌<◌, ◌≤◌, min, List, [], ◌∷◌, ◌++◌, length, take, drop, set, replicate, sym, refl, ap, ◌∙◌, ap₂, add-zero, add-suc, suc-add, zero-add, add-one, arith, length-append, length-set, take_at, drop_at}
+use Rattle.std.proofs.Common.{◌≡◌, ℕ, zero, suc, ◌+◌, ◌-◌, ◌*◌, ◌/◌, ◌%◌, ◌<◌, ◌≤◌, min, List, [], ◌∷◌, ◌++◌, length, take, drop, set, replicate, sym, refl, ap, ◌∙◌, ap₂, add-zero, add-suc, suc-add, zero-add, add-one, arith, append_assoc, length-append, length-set, take_at, drop_at}
 use lib.ListN.{length-replicate, replicate-append-replicate, get_or-append}
-use lib.Seq.{sets, sets-eq}
+use lib.Seq.{sets, sets-eq, drop-drop}
+use borrow.Rule.Slice.PartMut.{put_mid}
 use Rattle.block.specs.Bytes.{checksum}
 use Rattle.block.specs.Written.{number_bytes}
 use Rattle.block.proofs.Weights.{same-weight}
 use Rattle.samples.specs.declared.Shape.{Shape}
-use Rattle.samples.specs.Samples.{rising_labels, front, body, block_of_shape}
+use Rattle.samples.specs.Samples.{byte_of, rising_labels, front, body, block_of_shape}
 
 -- ---- stores
 
-pub four-sets : (l : List ℕ) (at a b c d : ℕ) → set (set (set (set l at a) (at + 1) b) (at + 2) c) (at + 3) d ≡ sets l at (a ∷ b ∷ c ∷ d ∷ [])
-four-sets l at a b c d = by (at + 1) (at + 2) (at + 3) (omega arith) (omega arith) (omega arith)
-  where
-    by : (i j k : ℕ) → i ≡ suc at → j ≡ suc (suc at) → k ≡ suc (suc (suc at)) → set (set (set (set l at a) i b) j c) k d ≡ sets l at (a ∷ b ∷ c ∷ d ∷ [])
-    by i j k p q r = rw (p, q, r) refl
+-- bytes copied over a part
+pub copied : (l : List ℕ) (a k : ℕ) (ys vs : List ℕ) → ys ≡ vs → k ≡ length vs → a + k ≤ length l → put_mid a k l ys ≡ sets l a vs
+copied l a k ys vs p e h =
+    ap₂ (λ (x y : List ℕ). take a l ++ (x ++ y)) p (drop-drop k a l ∙ ap (λ (n : ℕ). drop (a + n) l) e) ∙ sym (append_assoc (take a l) vs (drop (a + length vs) l))
+    ∙ sym (sets-eq vs l a (omega (arith, e)))
 
 sets-append : (l : List ℕ) (i : ℕ) (us vs : List ℕ) → sets l i (us ++ vs) ≡ sets (sets l i us) (i + length us) vs
 sets-append l i [] vs = ap (λ (n : ℕ). sets l n vs) (sym (add-zero i))
@@ -30,15 +31,15 @@ rising-length key (suc n) =
     length-append (rising_labels key n) _ ∙ omega arith
 
 -- one label more, put after the first k
-pub rising-next : (b d e : List ℕ) (key k at r : ℕ) → at ≡ 4 + 4 * k → d ≡ sets b 4 (rising_labels key k) → r ≡ (key + k) % 256 → e ≡ sets d at (0 ∷ r ∷ 0 ∷ 1 ∷ []) → e ≡ sets b 4 (rising_labels key (k + 1))
+pub rising-next : (b d e : List ℕ) (key k at : ℕ) → at ≡ 4 + 4 * k → d ≡ sets b 4 (rising_labels key k) → e ≡ sets d at (0 ∷ (key + k) % 256 ∷ 0 ∷ 1 ∷ []) → e ≡ sets b 4 (rising_labels key (k + 1))
 unfolding rising_labels
-rising-next b d e key k at r a p q w =
+rising-next b d e key k at a p w =
     let h : at ≡ 4 + length (rising_labels key k) = a ∙ ap (λ (n : ℕ). 4 + n) (sym (rising-length key k)) in
-    w ∙ rw (p, q, h) (sym (sets-append b 4 (rising_labels key k) (0 ∷ (key + k) % 256 ∷ 0 ∷ 1 ∷ [])))
+    w ∙ rw (p, h) (sym (sets-append b 4 (rising_labels key k) (0 ∷ (key + k) % 256 ∷ 0 ∷ 1 ∷ [])))
     ∙ ap (λ (n : ℕ). sets b 4 (rising_labels key n)) (sym (add-one k))
 
 -- the labels after the first four bytes
-pub front-sets : (s : Shape) (b d e : List ℕ) → d ≡ sets b 0 (s.kind ∷ s.one ∷ s.two ∷ s.three ∷ []) → e ≡ sets d 4 (rising_labels s.key (min s.labels 9)) → e ≡ sets b 0 (front s)
+pub front-sets : (s : Shape) (b d e : List ℕ) → d ≡ sets b 0 (byte_of s.kind ∷ s.one ∷ s.two ∷ s.three ∷ []) → e ≡ sets d 4 (rising_labels s.key (min s.labels 9)) → e ≡ sets b 0 (front s)
 unfolding front
 front-sets s b d e p q = q ∙ ap (λ (l : List ℕ). sets l 4 (rising_labels s.key (min s.labels 9))) p
 
@@ -85,9 +86,10 @@ pub checksum-small : (b : List ℕ) → checksum b < 65521
 unfolding checksum
 checksum-small b = omega arith
 
-pub sum-sets : (b : List ℕ) (r w above : ℕ) → r ≡ checksum b → w ≡ above
-    → set (set b 510 ((r + w) % 65521 / 256)) 511 ((r + w) % 65521 % 256) ≡ sets b 510 (number_bytes ((checksum b + above) % 65521))
-sum-sets b r w above p q = ap₂ (λ (x y : ℕ). sets b 510 (number_bytes ((x + y) % 65521))) p q
+pub number-copied : (b bytes new : List ℕ) (n k : ℕ) → n < 65536 → bytes ≡ n / 256 % 256 ∷ n % 256 ∷ [] → new ≡ bytes → k ≡ 2 → 510 + k ≤ length b → put_mid 510 k b new ≡ sets b 510 (number_bytes n)
+number-copied b bytes new n k l p q e h =
+    let high : n / 256 % 256 ≡ n / 256 = omega arith in
+    copied b 510 k new (number_bytes n) (q ∙ p ∙ ap (λ (x : ℕ). x ∷ n % 256 ∷ []) high) e h
 
 -- what stands after the body does not show in it
 checksum-body : (b c : List ℕ) → length b ≡ 510 → checksum (b ++ c) ≡ checksum b

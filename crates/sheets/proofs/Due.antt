@@ -9,7 +9,7 @@ use lib.ListN.{length, take, drop, length-drop, length-append, take-append-drop}
 use lib.Seq.{length-take-le, paste, take-paste, length-paste}
 use borrow.Author.Tests.{eq-eqb, ne_eqb, ltb-true, ltb-false, eqb-true, eqb-false}
 use Rattle.block.specs.Entry.{Settings}
-use Rattle.block.specs.Refusal.{Read, refused, accepted}
+use Rattle.block.specs.Refusal.{Read, refused, accepted, reason_number}
 use Rattle.block.specs.Reader.{read_settings}
 use Rattle.model.specs.declared.Finding.{Finding}
 use Rattle.model.specs.Model.{Model, empty}
@@ -85,7 +85,7 @@ module _ (k b i : List ℕ) (whole : length k ≡ 512) where
   block-open m t c h w (refused r) e q =
       subst (λ (x : List ℕ × Answer). Onward t (with_block k c (opens x)) i) (sym (open-refused m b h r e)) (record {
         rest = [];
-        text = q ∙ sym (append-nil (refused_line 1 r.number));
+        text = q ∙ sym (append-nil (refused_line 1 (reason_number r.reason)));
         size = whole;
         due = refl;
       })

@@ -2,7 +2,7 @@
 -- speaks of the plain book alone: no memory, no stored bit, no piece of input and no buffer.
 use Rattle.std.specs.Prelude.{List, [], ◌∷◌, ◌++◌, ℕ, ◌+◌, length}
 use Rattle.block.specs.Entry.{Settings}
-use Rattle.block.specs.Refusal.{Read, refused, accepted}
+use Rattle.block.specs.Refusal.{Read, refused, accepted, reason_number}
 use Rattle.block.specs.Reader.{read_settings}
 use Rattle.block.specs.Cut.{blocks_of}
 use Rattle.model.specs.Model.{Model, empty, computed_bits}
@@ -23,7 +23,7 @@ lines_from n m (b ∷ l) = let r = model_step m (change (admit b)) in refused_by
 
 -- "The first opens": "If open is refused .. that line is all."
 unfoldable pub sheet_from : Read Settings → List (List ℕ) → List ℕ
-sheet_from (refused f) l = refused_line 1 f.number
+sheet_from (refused f) l = refused_line 1 (reason_number f.reason)
 sheet_from (accepted s) l = lines_from 2 (empty s) l
 
 -- "or the input is empty (`REFUSED 1 3`)"

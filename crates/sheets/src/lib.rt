@@ -2,6 +2,8 @@
 // joined, is that sheet, is defined in specs/ and proved in proofs/.
 #![tactic(auto)]
 
+ghost use Rattle.std.specs.Prelude.{◌≡◌};
+
 use findings::Cursor;
 
 #[derive(Clone, Copy)]
@@ -20,6 +22,19 @@ pub enum State {
 pub struct Told {
     pub state: State,
     pub put: usize,
+}
+
+impl Told {
+    // The same of a step that used so many bytes of the piece.
+    pub fn using(self, used: usize) -> Stepped
+        ensures { result ≡ record { state = self.state; used = used; put = self.put } }
+    {
+        Stepped {
+            state: self.state,
+            used,
+            put: self.put,
+        }
+    }
 }
 
 // The state after a step, how many bytes of the piece it used, and how many bytes of text it put.

@@ -5,7 +5,8 @@ ghost use Rattle.std.specs.Prelude.{◌≡◌, ◌⊎◌, ◌↔◌, IsTrue, tru
 ghost use Rattle.std.specs.IoError.{error_kind};
 ghost use Rattle.std.specs.Io.{ReadsAtMost, WritesAtMost};
 ghost use Rattle.std.specs.Io.KnownBytes.{Keeps, Appends, ReadConsumes, WriteAppends};
-ghost use Rattle.streams.specs.Bytes.{to_come, TellsEnd, AppendsSome};
+ghost use Rattle.streams.specs.declared.Input.TheVariants.{Unused};
+ghost use Rattle.streams.specs.Bytes.{Within, ended_in, piece_of, left_in, after, to_come, TellsEnd, AppendsSome};
 
 use std::io::{self, Error, ErrorKind, Read, Write};
 use std::thread;
@@ -44,23 +45,48 @@ fn read<R: Read>(clock: &impl Clock, reader: &mut R, bytes: &mut [u8]) -> io::Re
     reader.read(bytes)
 }
 
-// What was read: the bytes from `at` to before `end` are still to be used; and whether the input has ended.
+// What is left of the input: of the bytes read last those from one place to before another, or nothing, since it has ended.
 #[derive(Clone, Copy)]
-pub struct Input {
-    pub at: usize,
-    pub end: usize,
-    pub ended: bool,
+pub enum Input {
+    Unused(usize, usize),
+    Ended,
+}
+
+impl Input {
+    pub fn ended(self) -> bool
+        ensures { result ≡ ended_in self }
+    {
+        matches!(&self, Input::Ended)
+    }
+
+    // What is left of the bytes read last.
+    pub fn piece(self, bytes: &[u8]) -> &[u8]
+        requires { Within self (length bytes.now) }
+        ensures { result.now ≡ piece_of bytes.now self }
+    {
+        match self {
+            Input::Unused(at, end) => &bytes[at..end],
+            Input::Ended => &[],
+        }
+    }
+
+    // What is left where n more bytes were used.
+    pub fn used(self, n: usize) -> Input
+        requires { n ≤ left_in self }
+        ensures { result ≡ after self n }
+    {
+        match self {
+            Input::Unused(at, end) => Input::Unused(at + n, end),
+            Input::Ended => Input::Ended,
+        }
+    }
 }
 
 // The input before the first read.
 pub fn nothing_read() -> Input
-    ensures { (result.at ≡ 0) × (result.end ≡ 0) × (result.ended ≡ false) }
+    ensures { result ≡ Unused 0 0 }
 {
-    Input {
-        at: 0,
-        end: 0,
-        ended: false,
-    }
+    Input::Unused(0, 0)
 }
 
 // Reads, where all that came was used.
@@ -70,37 +96,23 @@ pub fn refill<R: Read>(
     bytes: &mut [u8],
     input: Input,
 ) -> io::Result<Input>
-    requires { (input.at ≤ input.end) × (input.end ≤ length bytes.old) }
-    ensures within { IfOk result (λ r. (r.at ≤ r.end) × (r.end ≤ length bytes.new)) }
-    ensures fed { IfOk result (λ r. r.ended ≡ false → r.at < r.end) }
-    ensures kept { (input.at < input.end → result ≡ Ok input) × (input.ended ≡ true → result ≡ Ok input) }
+    requires { Within input (length bytes.old) }
+    ensures within { IfOk result (λ r. Within r (length bytes.new)) }
+    ensures fed { IfOk result (λ r. ended_in r ≡ false → 0 < left_in r) }
+    ensures kept { (0 < left_in input → result ≡ Ok input) × (ended_in input ≡ true → result ≡ Ok input) }
     ensures bytes { IfOk result (λ r. Keeps (to_come bytes.old input (R.remaining reader.old)) (to_come bytes.new r (R.remaining reader.new))) }
     ensures end { IfOk result (λ r. 0 < length bytes.old → TellsEnd input (R.remaining reader.old) → TellsEnd r (R.remaining reader.new)) }
     ensures err { OnErr result (Keeps (R.remaining reader.old) (R.remaining reader.new)) }
 {
-    if input.at < input.end {
+    let Input::Unused(at, end) = input else {
+        return Ok(input);
+    };
+    if at < end {
         return Ok(input);
     }
-    if input.ended {
-        return Ok(input);
-    }
-    let end = read(clock, reader, bytes)?;
-    Ok(Input {
-        at: 0,
-        end,
-        ended: end == 0,
-    })
-}
-
-// What is left of the input where n more of its bytes were used.
-pub fn used(input: Input, n: usize) -> Input
-    requires { input.at + n ≤ input.end }
-    ensures { (result.at ≡ input.at + n) × (result.end ≡ input.end) × (result.ended ≡ input.ended) }
-{
-    Input {
-        at: input.at + n,
-        end: input.end,
-        ended: input.ended,
+    match read(clock, reader, bytes)? {
+        0 => Ok(Input::Ended),
+        end => Ok(Input::Unused(0, end)),
     }
 }
 
@@ -118,21 +130,20 @@ fn write_some<W: Write>(clock: &impl Clock, writer: &mut W, bytes: &[u8]) -> io:
     writer.write(bytes)
 }
 
-// Writes the bytes before `end` to the output, a short write written on. Where that fails, some of them were written.
-#[tactic(auto, using(crate::proofs::Bytes::ends_before, crate::proofs::Bytes::written_on))]
-pub fn write<W: Write>(clock: &impl Clock, writer: &mut W, out: &[u8], end: usize) -> io::Result<()>
-    requires { end ≤ length out.now }
-    ensures none { end ≡ 0 → IsOk result }
-    ensures all { OnOk result (Appends (W.contents writer.old) (W.contents writer.new) (take end out.now)) }
-    ensures part { OnErr result (AppendsSome (W.contents writer.old) (W.contents writer.new) out.now end) }
+// Writes the whole text to the output, a short write written on. Where that fails, some of it was written.
+pub fn write_whole<W: Write>(clock: &impl Clock, writer: &mut W, text: &[u8]) -> io::Result<()>
+    ensures none { length text.now ≡ 0 → IsOk result }
+    ensures all { OnOk result (Appends (W.contents writer.old) (W.contents writer.new) text.now) }
+    ensures part { OnErr result (AppendsSome (W.contents writer.old) (W.contents writer.new) text.now (length text.now)) }
 {
-    let mut at = 0;
-    while at < end {
-        let put = write_some(clock, writer, &out[at..end])?;
+    let mut rest = text;
+    // Kept: what a call writes shows only when it was made, and so no iterator goes over the pieces.
+    while !rest.is_empty() {
+        let put = write_some(clock, writer, rest)?;
         if put == 0 {
             return Err(Error::from(ErrorKind::WriteZero));
         }
-        at += put;
+        rest = &rest[put..];
     }
     Ok(())
 }

@@ -1,6 +1,6 @@
 //! How often a call that failed for now is made again, and with which pauses.
 
-use super::{nothing_read, refill, write};
+use super::{nothing_read, refill, write_whole};
 use std::cell::Cell;
 use std::io::{self, Error, ErrorKind, Read, Write};
 use std::time::{Clock, Duration};
@@ -80,7 +80,7 @@ fn read_after(failures: u32, with: ErrorKind) -> (Option<ErrorKind>, u32) {
 // The same of five bytes written.
 fn written_after(failures: u32, with: ErrorKind) -> (Option<ErrorKind>, u32) {
     let pauses = Pauses(Cell::new(0));
-    let written = write(&pauses, &mut failing(failures, with), b"sheet", 5);
+    let written = write_whole(&pauses, &mut failing(failures, with), b"sheet");
     (written.err().map(|e| e.kind()), pauses.0.get())
 }
 

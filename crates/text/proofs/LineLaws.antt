@@ -2,11 +2,16 @@
 use mathlib.Core.Path.{◌≡◌, refl, sym, ap, ap₂, ◌∙◌}
 use mathlib.Core.Bool.{Bool, cond}
 use mathlib.Core.List.{List, [], ◌∷◌, ◌++◌, map, append_assoc, append-nil}
-use Prim.Native.Nat.{ℕ, zero, suc, ◌+◌, ◌*◌, ◌/◌, ◌%◌, ◌≤◌, ◌<◌}
+use Prim.Native.Nat.{ℕ, zero, suc, ◌+◌, ◌-◌, ◌*◌, ◌/◌, ◌%◌, ◌≤◌, ◌<◌}
 use native.Mathlib.Omega.{arith}
 use native.Mathlib.Numerals.{add-one}
-use lib.ListN.{length, take, get_or}
-use lib.Seq.{take-suc, take_all}
+use lib.ListN.{length, get_or, take, drop, length-take, length-drop}
+use lib.Seq.{take_all, drop-cons, drop-drop}
+use Rattle.std.proofs.lemmas.List.{drop_all}
+use borrow.Rule.Slice.PartMut.{put_mid}
+use Rattle.buffer.specs.Buffer.{Puts}
+use Rattle.buffer.proofs.BufferLaws.{puts_none, puts_then, puts-size, puts-as}
+use Rattle.digits.proofs.DecimalLaws.{widths}
 use borrow.Author.Tests.{eq-eqb, ne_eqb}
 use Rattle.model.specs.declared.Finding.{Finding}
 use Rattle.model.specs.Findings.{finding_code}
@@ -33,17 +38,14 @@ unfolding code_lines finding_lines
 code_lines-law [] h = refl
 code_lines-law (g ∷ l) h = ap₂ (λ (x y : List ℕ). x ++ y) (code-line g h.0 h.1) (code_lines-law l h.2)
 
-code-lines-append : (l k : List ℕ) → code_lines (l ++ k) ≡ code_lines l ++ code_lines k
+-- the line of the next, and those behind it
+pub code_lines-first : (l : List ℕ) (i : ℕ) → i < length l → code_lines (drop i l) ≡ code_line (get_or l i 0) ++ code_lines (drop (i + 1) l)
 unfolding code_lines
-code-lines-append [] k = refl
-code-lines-append (n ∷ l) k = ap (λ (x : List ℕ). code_line n ++ x) (code-lines-append l k) ∙ sym (append_assoc (code_line n) (code_lines l) (code_lines k))
+code_lines-first l i h = ap code_lines (drop-cons l i 0 h ∙ ap (λ (k : ℕ). get_or l i 0 ∷ drop k l) (sym (add-one i)))
 
--- the lines of one more
-pub code-lines-next : (l : List ℕ) (i : ℕ) → i < length l → code_lines (take i l) ++ code_line (get_or l i 0) ≡ code_lines (take (i + 1) l)
+pub code_lines-none : (l : List ℕ) (i : ℕ) → length l ≤ i → code_lines (drop i l) ≡ []
 unfolding code_lines
-code-lines-next l i h =
-    sym (ap (λ (k : ℕ). code_lines (take k l)) (add-one i) ∙ ap code_lines (take-suc l i 0 h) ∙ code-lines-append (take i l) (get_or l i 0 ∷ [])
-    ∙ ap (λ (x : List ℕ). code_lines (take i l) ++ x) (append-nil (code_line (get_or l i 0))))
+code_lines-none l i h = ap code_lines (drop_all i l h)
 
 pub lines-append : (l k : List Finding) → finding_lines (l ++ k) ≡ finding_lines l ++ finding_lines k
 unfolding finding_lines
@@ -55,6 +57,46 @@ small-take zero l h = tt
 small-take (suc n) [] h = tt
 small-take (suc n) (g ∷ l) h = (h.0, h.1, small-take n l h.2)
 
+-- ---- a line, part after part
+
+-- a text put at the start of what comes behind
+puts_part : {e u f : List ℕ} {n k r : ℕ} → n ≤ length e → k ≡ length e - n → Puts (take k (drop n e)) 0 u f r → Puts e n u (put_mid n k e f) (n + r)
+puts_part {e} {u} {f} {n} {k} {r} h q g =
+    let p : take k (drop n e) ≡ drop n e = take_all k (drop n e) (omega (arith, length-drop n e)) in
+    let none : drop k (drop n e) ≡ [] = drop_all k (drop n e) (omega (arith, length-drop n e)) in
+    let rest : drop r (drop n e) ≡ drop (n + r) e = drop-drop r n e in
+    record {
+      stops = omega (arith, g.stops);
+      room = omega (arith, g.room, length-take k (drop n e), length-drop n e);
+      text =
+          ap₂ (λ (x y : List ℕ). take n e ++ (x ++ y)) (g.text ∙ ap (λ (x : List ℕ). u ++ drop r x) p ∙ ap (λ (x : List ℕ). u ++ x) rest) none
+          ∙ ap (λ (x : List ℕ). take n e ++ x) (append-nil (u ++ drop (n + r) e)) ∙ sym (append_assoc (take n e) u (drop (n + r) e));
+    }
+
+pub puts_behind : {d t e u f : List ℕ} {n k r : ℕ} → Puts d 0 t e n → Puts (take k (drop n e)) 0 u f r → k ≡ length e - n → Puts d 0 (t ++ u) (put_mid n k e f) (n + r)
+puts_behind g h q = puts_then g (puts_part (omega (arith, g.room, puts-size g)) q h)
+
+-- Of a text, `rest` is still to be put.
+pub record ToPut (d all e : List ℕ) (n : ℕ) (rest : List ℕ) : Type 0 where
+  pub done : List ℕ
+  pub puts : Puts d 0 done e n
+  pub whole : done ++ rest ≡ all
+
+pub to_put-all : (d all : List ℕ) → ToPut d all d 0 all
+to_put-all d all = record { done = []; puts = puts_none (omega arith); whole = refl }
+
+pub to_put-less : {d all e u v f : List ℕ} {rest : List ℕ} {n k r : ℕ} → ToPut d all e n rest → rest ≡ u ++ v → Puts (take k (drop n e)) 0 u f r → k ≡ length e - n → ToPut d all (put_mid n k e f) (n + r) v
+to_put-less {d} {all} {e} {u} {v} g q h w = record {
+  done = g.done ++ u;
+  puts = puts_behind g.puts h w;
+  whole = append_assoc g.done u v ∙ ap (λ (x : List ℕ). g.done ++ x) (sym q) ∙ g.whole;
+}
+
+pub to_put-none : {d all e : List ℕ} {n : ℕ} {rest : List ℕ} → ToPut d all e n rest → rest ≡ [] → Puts d 0 all e n
+to_put-none g q = puts-as g.puts (sym (append-nil g.done) ∙ ap (λ (x : List ℕ). g.done ++ x) (sym q) ∙ g.whole)
+
+pub ruleset pieces = (widths, puts_behind, puts_none, puts-as)
+
 -- ---- the answers to blocks
 
 pub number-taken : (n r : ℕ) → r ≡ 0 → [] ≡ number_line n r
@@ -65,41 +107,18 @@ pub number-refused : (n r : ℕ) → (r ≡ 0 → ⊥) → refused_line n r ≡ 
 unfolding number_line
 number-refused n r e = ap (λ (t : Bool). cond t [] (refused_line n r)) (sym (ne_eqb r 0 e))
 
-pairs-length : (l : List ℕ) → length (pairs_of l) ≡ length l / 2
-pairs-length [] = refl
-pairs-length (x ∷ []) = refl
-pairs-length (x ∷ y ∷ l) = let h = pairs-length l in omega (arith, h)
-
--- the first number of a pair
-pairs_first : (l : List ℕ) (i : ℕ) → i < length l / 2 → (get_or (pairs_of l) i (0, 0)).0 ≡ get_or l (2 * i) 0
-pairs_first [] i h = absurd (omega (arith, h))
-pairs_first (x ∷ []) i h = absurd (omega (arith, h))
-pairs_first (x ∷ y ∷ l) zero h = refl
-pairs_first (x ∷ y ∷ l) (suc i) h =
-    let e : suc (suc (2 * i)) ≡ 2 * suc i = omega arith in
-    pairs_first l i (omega (arith, h)) ∙ ap (λ (k : ℕ). get_or (x ∷ y ∷ l) k 0) e
-
-pair-lines-suc : (ps : List (ℕ × ℕ)) (n i : ℕ) → i < length ps → pair_lines n (take i ps) ++ number_line (n + i + 1) (get_or ps i (0, 0)).0 ≡ pair_lines n (take (suc i) ps)
+-- the line of the first answer, and those behind it
+pub pair_lines-first : (n : ℕ) (x l : List ℕ) → length x ≡ 2 → pair_lines n (pairs_of (x ++ l)) ≡ number_line (n + 1) (get_or x 0 0) ++ pair_lines (n + 1) (pairs_of l)
 unfolding pair_lines
-pair-lines-suc [] n i h = absurd (omega arith)
-pair-lines-suc (p ∷ ps) n zero h =
-    let e : n + 0 + 1 ≡ n + 1 = omega arith in
-    ap (λ (k : ℕ). number_line k p.0) e ∙ sym (append-nil (number_line (n + 1) p.0))
-pair-lines-suc (p ∷ ps) n (suc i) h =
-    let t = number_line (n + 1) p.0 in
-    let e : n + suc i + 1 ≡ n + 1 + i + 1 = omega arith in
-    let u = (get_or ps i (0, 0)).0 in
-    append_assoc t (pair_lines (n + 1) (take i ps)) (number_line (n + suc i + 1) u)
-    ∙ ap (λ (k : ℕ). t ++ (pair_lines (n + 1) (take i ps) ++ number_line k u)) e
-    ∙ ap (λ (x : List ℕ). t ++ x) (pair-lines-suc ps (n + 1) i (omega arith))
+pair_lines-first n [] l h = absurd (omega arith)
+pair_lines-first n (r ∷ []) l h = absurd (omega arith)
+pair_lines-first n (r ∷ s ∷ []) l h = refl
+pair_lines-first n (r ∷ s ∷ t ∷ x) l h = absurd (omega arith)
 
--- the line of one more
-pub pair-lines-next : (l : List ℕ) (n i : ℕ) → i < length l / 2
-    → pair_lines n (take i (pairs_of l)) ++ number_line (n + i + 1) (get_or l (2 * i) 0) ≡ pair_lines n (take (i + 1) (pairs_of l))
-pair-lines-next l n i h =
-    ap (λ (r : ℕ). pair_lines n (take i (pairs_of l)) ++ number_line (n + i + 1) r) (sym (pairs_first l i h))
-    ∙ pair-lines-suc (pairs_of l) n i (omega (arith, h, pairs-length l))
-    ∙ ap (λ (k : ℕ). pair_lines n (take k (pairs_of l))) (sym (add-one i))
+pub pair_lines-none : (n : ℕ) (l : List ℕ) → length l < 2 → pair_lines n (pairs_of l) ≡ []
+unfolding pair_lines
+pair_lines-none n [] h = refl
+pair_lines-none n (x ∷ []) h = refl
+pair_lines-none n (x ∷ y ∷ l) h = absurd (omega arith)
 
-pub pair-lines-all : (l : List ℕ) (n i : ℕ) → length l / 2 ≤ i → pair_lines n (take i (pairs_of l)) ≡ pair_lines n (pairs_of l)
-pair-lines-all l n i h = ap (pair_lines n) (take_all i (pairs_of l) (omega (arith, h, pairs-length l)))
+pub ruleset answers = (number-taken, number-refused)

@@ -1,31 +1,36 @@
-// Lines of text, put into a buffer.
+// Lines of text, put at the start of a buffer.
 #![tactic(auto)]
 
 ghost use Rattle.std.specs.Prelude.{◌+◌, ◌*◌, ◌/◌, ◌≤◌, ◌<◌, length};
 ghost use Rattle.buffer.specs.Buffer.{Puts};
+ghost use Rattle.block.specs.Refusal.{reason_number};
 ghost use Rattle.text.specs.Text.{named};
 ghost use Rattle.model.specs.Calls.{pairs_of};
 ghost use Rattle.text.specs.Lines.{refused_line, number_line, pair_lines, counts_line, code_line, code_lines};
 
+use block::Reason;
+
 // Puts a word, a number, and then a byte.
-fn put_named(out: &mut [u8], at: usize, word: &[u8], n: u64, end: u8) -> usize
-    requires { at + length word.now + 22 ≤ length out.old }
-    ensures puts { Puts out.old at (named word.now n end) out.new result }
-    ensures upper_bound { result ≤ at + length word.now + 22 }
+#[tactic(auto, using(crate::proofs::LineLaws::pieces), unfolding(crate::specs::Text::named))]
+fn put_named(out: &mut [u8], word: &[u8], n: u64, end: u8) -> usize
+    requires { length word.now + 22 ≤ length out.old }
+    ensures puts { Puts out.old 0 (named word.now n end) out.new result }
+    ensures upper_bound { result ≤ length word.now + 22 }
 {
-    let next = digits::put_word(out, at, word, b' ');
-    digits::put_number(out, next, n, end)
+    let name = digits::put_word(out, word, b' ');
+    name + digits::put_decimal(&mut out[name..], n, end)
 }
 
 // Puts the line of a finding, given as one number.
-pub fn put_finding(out: &mut [u8], at: usize, code: u64) -> usize
-    requires { at + 23 ≤ length out.old }
-    ensures puts { Puts out.old at (code_line code) out.new result }
-    ensures lower_bound { (at < result) × (result ≤ at + 23) }
+#[tactic(auto, using(crate::proofs::LineLaws::pieces), unfolding(crate::specs::Lines::code_line, crate::specs::Text::three_numbers))]
+pub fn put_finding(out: &mut [u8], code: u64) -> usize
+    requires { 23 ≤ length out.old }
+    ensures puts { Puts out.old 0 (code_line code) out.new result }
+    ensures lower_bound { (0 < result) × (result ≤ 23) }
 {
-    let second = digits::put_number(out, at, code / 4294967296, b' ');
-    let third = digits::put_number(out, second, code / 65536 % 65536, b' ');
-    digits::put_number(out, third, code % 65536, b'\n')
+    let mut put = digits::put_decimal(out, code / 4294967296, b' ');
+    put += digits::put_decimal(&mut out[put..], code / 65536 % 65536, b' ');
+    put + digits::put_decimal(&mut out[put..], code % 65536, b'\n')
 }
 
 // Puts the lines of findings, each given as one number.
@@ -33,35 +38,46 @@ pub fn put_findings(out: &mut [u8], codes: &[u64]) -> usize
     requires { 23 * length codes.now ≤ length out.old }
     ensures { Puts out.old 0 (code_lines codes.now) out.new result }
 {
-    let mut at = 0;
-    let mut next = 0;
-    while next < codes.len() {
-        at = put_finding(out, at, codes[next]);
-        next += 1;
+    let mut put = 0;
+    for code in codes {
+        put += put_finding(&mut out[put..], *code);
     }
-    at
+    put
 }
 
 // Puts the line of the block with this number, refused with this number.
-pub fn put_refusal(out: &mut [u8], at: usize, block: u64, refusal: u64) -> usize
-    requires { at + 64 ≤ length out.old }
-    ensures puts { Puts out.old at (refused_line block refusal) out.new result }
-    ensures upper_bound { result ≤ at + 64 }
+// Kept: the list that C lends for a batch's answers holds numbers, and so the line is put from a number.
+#[tactic(auto, using(crate::proofs::LineLaws::pieces), unfolding(crate::specs::Lines::refused_line))]
+pub fn put_refused(out: &mut [u8], block: u64, number: u64) -> usize
+    requires { 64 ≤ length out.old }
+    ensures puts { Puts out.old 0 (refused_line block number) out.new result }
+    ensures upper_bound { result ≤ 64 }
 {
-    let next = put_named(out, at, b"REFUSED", block, b' ');
-    digits::put_number(out, next, refusal, b'\n')
+    let name = put_named(out, b"REFUSED", block, b' ');
+    name + digits::put_decimal(&mut out[name..], number, b'\n')
+}
+
+// Puts the line of the block with this number, refused for this reason.
+pub fn put_refusal(out: &mut [u8], block: u64, reason: Reason) -> usize
+    requires { 64 ≤ length out.old }
+    ensures puts { Puts out.old 0 (refused_line block (reason_number reason)) out.new result }
+    ensures upper_bound { result ≤ 64 }
+{
+    put_refused(out, block, u64::from(reason.number()))
 }
 
 // Puts the line of the block with this number, where the number of its answer is a refusal.
-fn put_answer(out: &mut [u8], at: usize, block: u64, number: u16) -> usize
-    requires { at + 64 ≤ length out.old }
-    ensures puts { Puts out.old at (number_line block number) out.new result }
-    ensures upper_bound { result ≤ at + 64 }
+// Kept: the C interface: the list that C lends for a batch has numbers.
+#[tactic(auto, using(crate::proofs::LineLaws::pieces, crate::proofs::LineLaws::answers))]
+fn put_answer(out: &mut [u8], block: u64, number: u16) -> usize
+    requires { 64 ≤ length out.old }
+    ensures puts { Puts out.old 0 (number_line block number) out.new result }
+    ensures upper_bound { result ≤ 64 }
 {
     if number == 0 {
-        return at;
+        return 0;
     }
-    put_refusal(out, at, block, number as u64)
+    put_refused(out, block, u64::from(number))
 }
 
 // Puts the line of each block that was refused, of those whose answers are these, two numbers for each: 0 and a slot, or the refusal
@@ -70,22 +86,23 @@ pub fn put_refusals(out: &mut [u8], answers: &[u16], n: u64) -> usize
     requires { (64 * (length answers.now / 2) ≤ length out.old) × (n + length answers.now / 2 ≤ 18446744073709551615) }
     ensures { Puts out.old 0 (pair_lines n (pairs_of answers.now)) out.new result }
 {
-    let mut at = 0;
-    let mut i = 0;
-    while i < answers.len() / 2 {
-        at = put_answer(out, at, n + i as u64 + 1, answers[2 * i]);
-        i += 1;
+    let mut put = 0;
+    let mut block = n;
+    for answer in answers.chunks_exact(2) {
+        block += 1;
+        put += put_answer(&mut out[put..], block, answer[0]);
     }
-    at
+    put
 }
 
 // Puts the line of the counts.
+#[tactic(auto, using(crate::proofs::LineLaws::pieces), unfolding(crate::specs::Lines::counts_line))]
 pub fn put_counts(out: &mut [u8], containers: u64, policies: u64, pairs: u64) -> usize
     requires { 128 ≤ length out.old }
     ensures puts { Puts out.old 0 (counts_line containers policies pairs) out.new result }
     ensures upper_bound { result ≤ 128 }
 {
-    let second = put_named(out, 0, b"CONTAINERS", containers, b' ');
-    let third = put_named(out, second, b"POLICIES", policies, b' ');
-    put_named(out, third, b"PAIRS", pairs, b'\n')
+    let mut put = put_named(out, b"CONTAINERS", containers, b' ');
+    put += put_named(&mut out[put..], b"POLICIES", policies, b' ');
+    put + put_named(&mut out[put..], b"PAIRS", pairs, b'\n')
 }

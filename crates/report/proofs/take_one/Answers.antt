@@ -1,34 +1,22 @@
--- Each return is one of the four ways of `take_one`.
-use mathlib.Core.Path.{refl, sym, ◌∙◌}
-use native.Mathlib.Omega.{arith}
-use lib.Seq.{length-take-le}
-use Rattle.buffer.proofs.BufferLaws.{puts_none}
-use Rattle.sheets.proofs.PieceLaws.{does-as, take_last, take_on, with-more, with-end, with-block}
+-- A whole block: what stands in its buffer are the bytes that stood there and the first of the piece.
+use Rattle.std.proofs.Common.{◌≡◌, ◌+◌, ◌-◌, ◌≤◌, ℕ, List, ◌++◌, length, take, drop, refl, sym, ap, ◌∙◌, arith}
+use Rattle.std.proofs.lemmas.List.{take-take, length-take}
+use Rattle.std.proofs.lemmas.Slice.{put_mid-paste}
+use lib.Seq.{paste}
+use borrow.Rule.Slice.PartMut.{put_mid}
+use Rattle.sheets.proofs.PieceLaws.{does-as, take_on, with-block}
 use Rattle.report.proofs.take_one.Goals as goal
 
-pub returns-then-n-eq18446744073709551615 : goal.returns-then-n-eq18446744073709551615
-returns-then-n-eq18446744073709551615 c = record {
-  does = does-as (take_last _ _ _ _ _ _ (omega arith)) (record { memory = refl; block = refl; text = puts_none (omega arith); state = refl; used = refl });
-  used_in_bounds = omega arith;
-}
+copied : (block piece new : List ℕ) (f used : ℕ) → new ≡ take used piece → used ≤ length piece → put_mid f (f + used - f) block new ≡ paste block f piece used
+copied block piece new f used e h =
+    put_mid-paste f (f + used - f) block new (take used piece) used e (omega arith) (omega (arith, length-take used piece))
+    ∙ ap (λ (l : List ℕ). take f block ++ l ++ drop (f + used) block) (take-take used used piece (omega arith))
 
-pub returns-then-waits : goal.returns-then-waits
-returns-then-waits c = record {
-  does = does-as (take_on _ _ _ _ _ _ (omega arith) _ c.share-used.ensures.value _ c.copy.ensures ∙ with-more _ _ _ _ _ _ (sym c.waits.ensures ∙ c.if-waits.true)) (record { memory = refl; block = refl; text = puts_none (omega arith); state = refl; used = refl });
-  used_in_bounds = omega arith;
-}
-
-pub returns-then-bytes-eq0 : goal.returns-then-bytes-eq0
-returns-then-bytes-eq0 c = record {
-  does = does-as (take_on _ _ _ _ _ _ (omega arith) _ c.share-used.ensures.value _ c.copy.ensures ∙ with-end _ _ _ _ _ _ (sym c.waits.ensures ∙ c.if-waits.false) c.if-bytes-eq0.true) (record { memory = refl; block = refl; text = c.end_after-told.ensures.text; state = c.end_after-told.ensures.state; used = refl });
-  used_in_bounds = omega arith;
-}
-
-pub slice_bounds-take_block-end-2 : goal.slice_bounds-take_block-end-2
-slice_bounds-take_block-end-2 c = sym (length-take-le _ _ (omega arith))
-
-pub returns : goal.returns
-returns c = record {
-  does = does-as (take_on _ _ _ _ _ _ (omega arith) _ c.share-used.ensures.value _ c.copy.ensures ∙ with-block _ _ _ _ _ _ (sym c.waits.ensures ∙ c.if-waits.false) c.if-bytes-eq0.false) (record { memory = c.take_block-told.ensures.memory; block = refl; text = c.take_block-told.ensures.text; state = c.take_block-told.ensures.state; used = refl });
-  used_in_bounds = omega arith;
-}
+pub returns-clause-does : goal.returns-clause-does
+returns-clause-does c =
+    let a = c.args in
+    let used = c.min-used.result in
+    let pasted = copied a.block.now a.piece.now c.copy_from_slice.new.self a.f used c.copy_from_slice.ensures.after (omega arith) in
+    does-as
+    (take_on a.memory.now a.block.now a.piece.now a.ended a.n a.f (omega arith) used (omega arith) _ pasted ∙ with-block _ _ _ _ _ _ (sym c.waits.ensures ∙ c.if-waits.false) c.if-bytes-eq0.false)
+    (rw c.using-2.ensures (record { memory = c.feed_block.ensures.memory; block = refl; text = c.feed_block.ensures.text; state = c.feed_block.ensures.state; used = refl }))

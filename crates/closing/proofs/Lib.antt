@@ -1,2 +1,0 @@
--- The laws behind the proofs of `closing`.
-pub mod ClosingLaws

@@ -1,0 +1,5 @@
+-- Each call has a digit less to put.
+use Rattle.digits.proofs.+put_digits.Given as goal
+
+abbrev pub decreases-put_digits : goal.decreases-put_digits
+decreases-put_digits l = l.n
