@@ -1,7 +1,8 @@
 #!/usr/bin/env python3
 """Counts the places of docs/DESIGN-PASS.md in crates/*/src, point by point; with -v each place, with its file and line.
 
-A place with a comment line `// Kept:` above or beside it, within its function or type, is counted as kept."""
+A place with a comment line `// Kept:` above or beside it, within its function or type, is counted as kept. Such a line at an impl or a
+trait stands for the places in it, and one in the comment at the head of a file for all of the file."""
 import re
 import sys
 from collections import defaultdict
@@ -14,13 +15,13 @@ VERBOSE = "-v" in sys.argv[1:]
 class Piece:
     """An item of a source file: a function, a type, a constant or an impl's method, with the comment above it."""
 
-    def __init__(self, file, line, text):
-        self.file, self.line, self.text = file, line, text
+    def __init__(self, file, line, text, kept, traits):
+        self.file, self.line, self.text, self.trait = file, line, text, traits.get(line)
         self.code = "\n".join(re.sub(r"//.*", "", it) for it in text.split("\n"))
         found = re.search(r"\b(?:fn|enum|struct|trait|const|impl)\s+(?:<[^>]*>\s*)?(\w+)", self.code)
         self.name = found.group(1) if found else "?"
         self.kind = (re.search(r"\b(fn|enum|struct|trait|const|impl)\b", self.code) or [None, "?"])[1]
-        self.kept = "// Kept:" in text
+        self.kept = "// Kept:" in text or line in kept
 
     def body(self):
         return self.code[self.code.index("\n{"):] if "\n{" in self.code else self.code[self.code.find("{"):]
@@ -32,12 +33,33 @@ class Piece:
         return re.findall(r"^\s*%s(?: \w+)? \{ (.*) \}\s*;?\s*$" % word, self.code, re.M)
 
 
+def around(lines):
+    """The numbers of the lines for which a line `// Kept:` stands that is at the head of the file, or at the impl or trait around them; and
+    for each line in an impl of a trait, that trait."""
+    head = next((n for n, line in enumerate(lines) if not line.startswith("//")), len(lines))
+    kept = set(range(1, len(lines) + 1)) if "// Kept:" in "\n".join(lines[:head]) else set()
+    traits, above, held, trait = {}, [], False, None
+    for number, line in enumerate(lines, 1):
+        if re.match(r"(?:pub )?(?:impl|trait)\b", line):
+            held = "// Kept:" in "\n".join(above)
+            trait = (re.match(r"impl(?:<.*?>)? (?:\w+::)*(\w+)(?:<.*>)? for ", line) or [None, None])[1]
+        if held:
+            kept.add(number)
+        if trait:
+            traits[number] = trait
+        if line.startswith("}"):
+            held, trait = False, None
+        above = above + [line] if line.startswith(("// ", "#[")) else []
+    return kept, traits
+
+
 def pieces():
     """Each item of each source file, tests apart: from its first comment or attribute to the line before the next."""
     for file in sorted(TOP.glob("crates/*/src/**/*.rt")):
         if file.name == "tests.rt":
             continue
         lines = file.read_text(encoding="utf-8").split("\n")
+        kept, traits = around(lines)
         start = re.compile(r"^(    )?(?:pub(?:\(\w+\))? )?(?:#\[|const fn|extern|unsafe|fn|enum|struct|trait|const|impl|type|static)\b|^(    )?#\[|^(    )?// ")
         begin, held = None, []
         for number, line in enumerate(lines, 1):
@@ -51,7 +73,7 @@ def pieces():
             if line == "":
                 if re.search(r"\b(?:fn|enum|struct|trait|const|impl)\b", "\n".join(re.sub(r"//.*", "", it) for it in held)):
                     if not (re.search(r"\bimpl\b|\btrait\b", text) and not re.search(r"^\}", text, re.M)):
-                        yield Piece(str(file.relative_to(TOP)), begin, text)
+                        yield Piece(str(file.relative_to(TOP)), begin, text, kept, traits)
                         begin = None
                         continue
                     # the head of an impl: its methods are items of their own
@@ -59,10 +81,10 @@ def pieces():
                     continue
                 begin = None
             elif closes and line.startswith("}"):
-                yield Piece(str(file.relative_to(TOP)), begin, text)
+                yield Piece(str(file.relative_to(TOP)), begin, text, kept, traits)
                 begin = None
         if begin is not None and re.search(r"\b(?:fn|enum|struct|const)\b", "\n".join(held)):
-            yield Piece(str(file.relative_to(TOP)), begin, "\n".join(held))
+            yield Piece(str(file.relative_to(TOP)), begin, "\n".join(held), kept, traits)
 
 
 ITEMS = list(pieces())
@@ -109,7 +131,8 @@ for pattern, mark in PAIRS:
                 place(2, "names that differ in a word for the table, the part or the like", it)
 names = defaultdict(list)
 for it in FNS:
-    names[it.name].append(it)
+    if it.trait != "Iterator":
+        names[it.name].append(it)
 for name, group in names.items():
     files = {it.file.split("/")[1] for it in group}
     if len(files) > 1 and name != "main":

@@ -2,13 +2,16 @@
 #![tactic(auto)]
 
 ghost use Rattle.std.specs.Prelude.{◌≡◌, ◌+◌, ◌<◌, ◌≤◌, length};
-ghost use Rattle.store.specs.Layout.{row_count, Whole, row_at};
+ghost use Rattle.store.specs.Layout.{row_count, row_at};
 ghost use Rattle.store.specs.Memory.{slot_set, row_set, cleared};
 
+use store::Words;
+
 // Row r of the rows of bits.
-// Kept: the memory's size and the row's bound as clauses, since C hands a slice of words, and a row's number is a slot's as often.
-pub fn row_at(memory: &[u64], r: usize) -> [u64; 4]
-    requires { Whole memory.now × (r < row_count) }
+// Kept: the row's bound as a clause: a type of row numbers would be no plainer, since callers add a slot's number to where its table's rows
+// begin, and would make one at each call.
+pub fn row_at(memory: &Words, r: usize) -> [u64; 4]
+    requires { r < row_count }
     ensures { result ≡ row_at memory.now r }
 {
     let at = store::ROWS + store::ROW_WORDS * r;
@@ -16,7 +19,8 @@ pub fn row_at(memory: &[u64], r: usize) -> [u64; 4]
 }
 
 // A slot of n words made free: every word from `start` on 0.
-// Kept: the memory with `start`, since the clause says what becomes of the whole memory.
+// Kept: the memory with `start`: a slice of the n words would be no plainer, since the clause is of the whole memory, and each caller would
+// carry the slice's back to it.
 pub fn clear_slot(memory: &mut [u64], start: usize, n: usize)
     requires { start + n ≤ length memory.old }
     ensures { memory.new ≡ slot_set memory.old start n (λ k. 0) }
@@ -24,8 +28,8 @@ pub fn clear_slot(memory: &mut [u64], start: usize, n: usize)
     memory[start..start + n].fill(0);
 }
 
-pub fn set_row(memory: &mut [u64], r: usize, row: [u64; 4])
-    requires { Whole memory.old × (r < row_count) }
+pub fn set_row(memory: &mut Words, r: usize, row: [u64; 4])
+    requires { r < row_count }
     ensures { memory.new ≡ row_set memory.old r row }
 {
     let at = store::ROWS + store::ROW_WORDS * r;

@@ -7,16 +7,17 @@ ghost use Rattle.steps.specs.MemoryStep.{memory_step};
 ghost use Rattle.answers.specs.Answers.{admitted_answer};
 
 use answers::Admitted;
-use block::{Reason, Sort};
+use block::Reason;
+use store::Words;
 
 // The container or policy of the block comes to the lowest free slot of its table.
 pub fn admit(memory: &mut [u64], block: &[u8]) -> Result<Admitted, Reason>
     ensures { (memory.new, admitted_answer result) ≡ memory_step memory.old (change (admit block.now)) }
 {
+    // Kept: two lines in each call that changes; a function for both, as `call_tests::formed_memory` is for the calls that ask, would return
+    // a `&mut` out of a slice, which no contract can say yet.
     call_tests::test_memory(memory)?;
+    let memory: &mut Words = memory.as_mut_array().ok_or(Reason::MemorySize)?;
     let sort = call_tests::test_block(memory, block)?;
-    match sort {
-        Sort::Container => free_slots::admit_container(memory, block),
-        Sort::Policy => free_slots::admit_policy(memory, block),
-    }
+    free_slots::admit_entry(memory, block, sort)
 }

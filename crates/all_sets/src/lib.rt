@@ -9,11 +9,14 @@ ghost use Rattle.sets.specs.Sets.{KnownSets, SetsOf};
 
 use label_table::LabelTable;
 use sets::PolicySets;
+use store::Words;
 
 // What each policy selects and what it allows, by the label rows; the sets of the policy `known` are there already.
-// Kept: what `standing` is to the memory is asked of each caller. A struct that carried it would lend the memory, and a change writes
-// that between the calls that are given the row.
-fn fill_by_labels(memory: &[u64], standing: [u64; 4], known: Option<usize>, sets: &mut PolicySets)
+// Kept: that the entries of the memory are formed as a clause, here and wherever entries are read: a struct that lends the memory with a
+// ghost field for it was tried in `label_table`, and is no plainer: each clause then says `formed.entry.memory.now` for `memory.now`, each
+// caller makes the struct, and a change, in whose middle the memory is formed no more, keeps the clause. And what `standing` is to the
+// memory: a struct that carried it would lend the memory, which a change writes between the calls that are given the row.
+fn fill_by_labels(memory: &Words, standing: [u64; 4], known: Option<usize>, sets: &mut PolicySets)
     requires entries_formed { EntriesFormed memory.now × (bit_at standing ≡ stands (model_in memory.now).containers) }
     requires known_sets { KnownSets (model_in memory.now) known sets.old }
     ensures { SetsOf (model_in memory.now) sets.new }
@@ -44,7 +47,7 @@ fn fill_by_labels(memory: &[u64], standing: [u64; 4], known: Option<usize>, sets
 
 // What each policy selects and what it allows, into rows that are empty but for those of the policy `known`, if any, whose sets are
 // there already. Where no policy stands all rows stay as they are.
-pub fn fill_sets(memory: &[u64], standing: [u64; 4], known: Option<usize>, sets: &mut PolicySets)
+pub fn fill_sets(memory: &Words, standing: [u64; 4], known: Option<usize>, sets: &mut PolicySets)
     requires entries_formed { EntriesFormed memory.now × (bit_at standing ≡ stands (model_in memory.now).containers) }
     requires known_sets { KnownSets (model_in memory.now) known sets.old }
     ensures { SetsOf (model_in memory.now) sets.new }

@@ -13,7 +13,7 @@ use Rattle.steps.specs.MemoryStep.{changes, memory_step}
 use Rattle.steps.proofs.Refused.{refused-unchanged, query-unchanged}
 use Rattle.findings.specs.declared.Cursor.{Cursor}
 use Rattle.findings.specs.Steps.{cursor_place}
-use Rattle.std.specs.Prelude.{Option, Some, None, Result, Ok, Err, IsErrAnd}
+use Rattle.std.specs.Prelude.{Option, Some, None, Result, Ok, Err, IsErrAnd, ok_or}
 use Rattle.std.proofs.lemmas.Result.{err_from_is_err_and}
 use Rattle.block.specs.declared.Reason.{Reason}
 use Rattle.block.specs.declared.Reason.TheVariants.{MemorySize, NotWellFormed, BlockLength, Checksum, Kind, Limit, Range, Order, Unused, BeyondTable, FreeSlot, TableFull, BufferLength, BatchLength}
@@ -148,6 +148,12 @@ file-injective (Ok i) (Ok j) d e h k = ap Ok k
 
 pub returned : {A : Type 0} {o : Result A Reason} {r : Reason} → IsErrAnd o (λ x. x ≡ r) → o ≡ Err r
 returned {A} {o} h = let e = err_from_is_err_and o h in e.1 ∙ ap Err e.2
+
+-- the reason that an `ok_or` gives
+pub ok_or-reason : {A B : Type 0} (o : Result A Reason) (q : Option B) (s : Reason) {r : Reason} → IsErrAnd o (λ x. x ≡ r) → Err r ≡ ok_or q s → IsErrAnd o (λ x. x ≡ s)
+ok_or-reason (Err x) None s {r} h e = let k : r ≡ s = cc in h ∙ k
+ok_or-reason (Err x) (Some b) s h e = cc
+ok_or-reason (Ok y) q s h e = h
 
 -- a call that is refused, and whose answer says so
 pub turned : {A : Type 0} (m : List ℕ) (call : Call) (say : Result A Reason → Answer) {o : Result A Reason} {r : Reason} → IsErrAnd o (λ x. x ≡ r)

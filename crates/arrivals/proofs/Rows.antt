@@ -40,10 +40,10 @@ module _ {r : Registry} {t : Touched} where
   setting-none h fit = record { filled = filling-none h; fit = fit }
 
   module _ {m : List ℕ} {n : ℕ} (g : Setting r t m n) (hn : n < row_count) where
-    pub setting-next : {mask rule : ℕ → Bool} → mask ≡ mask_of t n → rule ≡ stored_bit (computed_bits r.model) n → {m' : List ℕ} → RowReset m m' n mask rule → Fit m'
+    pub setting-next : {mask rule : ℕ → Bool} → mask ≡ mask_of t n → rule ≡ stored_bit (computed_bits r.model) n → {m' : List ℕ} → RowReset m m' n mask rule
         → Setting r t m' (n + 1)
     unfolding anew_row
-    setting-next {mask} {rule} e f {m'} w fit = record { filled = filling-next g.filled (omega arith) hn turn; fit = fit }
+    setting-next {mask} {rule} e f {m'} w = record { filled = filling-next g.filled (omega arith) hn turn; fit = w.fits g.fit }
       where
         turn : (d : Contents) → Holds m d → Holds m' (with_row d (band_row all_rows n) (anew_row r t n (d.bits (band_row all_rows n))))
         turn d h =

@@ -12,6 +12,7 @@ ghost use Rattle.arrivals.specs.Anew.{mask_of, set_anew, TouchedBy};
 
 use block::Direction;
 use matrix_rows::Gathered;
+use store::Words;
 
 // What is set anew: these rows and columns of the matrix, the sets of these policies, and the bits of these containers in every set.
 #[derive(Clone, Copy)]
@@ -41,9 +42,10 @@ fn mask_of(r: usize, touched: Touched) -> [u64; 4]
 }
 
 // What containers and policies that came touch: the rows of what the egress policies among them select, the columns of what the
-// ingress policies select.
+// ingress policies select. Not compiled into its caller, which would then copy the 24 KiB that are gathered.
+#[inline(never)]
 fn touched_by(
-    memory: &[u64],
+    memory: &Words,
     gathered: &Gathered,
     containers: [u64; 4],
     policies: [u64; 4],
@@ -65,7 +67,7 @@ fn touched_by(
 }
 
 // Row by row, what is touched set by the rules, from what is gathered for all that stand.
-fn set_touched(memory: &mut [u64], touched: Touched, gathered: &Gathered)
+fn set_touched(memory: &mut Words, touched: Touched, gathered: &Gathered)
     requires entries_formed { EntriesFormed memory.old }
     requires gathers { Gathers (model_in memory.old) (stands (model_in memory.old).containers) gathered.now }
     ensures { memory.new ≡ image (set_anew touched (registry_in memory.old)) }
@@ -80,8 +82,8 @@ fn set_touched(memory: &mut [u64], touched: Touched, gathered: &Gathered)
 }
 
 // What containers and policies that came touch, set once by the rules from the entries.
-// Kept: what is asked of the memory stands in the contract, since over C it is words, lent for one call.
-pub fn settle_came(memory: &mut [u64], containers: [u64; 4], policies: [u64; 4])
+// Kept: that the memory is well formed as a clause: a struct for it is no plainer, for the reasons at `all_sets::fill_by_labels`.
+pub fn settle_came(memory: &mut Words, containers: [u64; 4], policies: [u64; 4])
     requires { well_formed memory.old ≡ true }
     ensures { memory.new ≡ image (settled (bit_at containers) (bit_at policies) (registry_in memory.old)) }
 {

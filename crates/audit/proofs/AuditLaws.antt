@@ -1,9 +1,8 @@
 -- Every stored bit by the rules: what an audit compares.
-use mathlib.Core.Path.{◌≡◌, refl, sym, ap, ap₂, ◌∙◌}
-use mathlib.Core.Bool.{Bool, true, false, ◌&&◌}
+use mathlib.Core.Path.{◌≡◌, sym, ap, ap₂, ◌∙◌}
+use mathlib.Core.Bool.{Bool, true}
 use mathlib.Core.List.{List}
-use Prim.Native.Nat.{ℕ, zero, suc, ◌+◌, ◌<◌}
-use native.Mathlib.Nat.{sub-zero}
+use Prim.Native.Nat.{ℕ, ◌<◌}
 use native.Mathlib.Omega.{arith}
 use Rattle.std.specs.List.{list_all, range_with_len}
 use Rattle.bitrow.specs.Bit.{bit_at}
@@ -16,8 +15,9 @@ use Rattle.store.specs.Layout.{row_count, row_at}
 use Rattle.store.specs.Contents.{Holds}
 use Rattle.store.proofs.Carried.{row-bit}
 use Rattle.formed.specs.Registry.{model_in, bits_in, registry_in, stored_bit, contents_of, EntriesFormed}
-use Rattle.formed.specs.Tests.{◌and◌, every, between}
+use Rattle.formed.specs.Tests.{between}
 use Rattle.formed.proofs.Runs.{between-at, between-all}
+use Rattle.formed.proofs.Listed.{between-listed}
 use Rattle.formed.proofs.Back.{matrix-bit, selected-bit, allowed-bit}
 use Rattle.formed.proofs.Reading.{entries-hold}
 use Rattle.formed.proofs.StoredLaws.{stored-cong}
@@ -25,16 +25,6 @@ use Rattle.matrix_rows.specs.declared.Gathered.{Gathered}
 use Rattle.matrix_rows.specs.Rows.{Gathers}
 use Rattle.whole.specs.StoredRows.{StoredFrom}
 use Rattle.model.specs.Table.{stands}
-
--- a test of each place in a run, by the list of the places
-every-listed : (f : ℕ → Bool) (i n : ℕ) → every f i n ≡ list_all f (range_with_len i n)
-unfolding ◌and◌
-every-listed f i zero = refl
-every-listed f i (suc n) = elim (f i) as (λ t. (t and every f (i + 1) n) ≡ (t && list_all f (range_with_len (i + 1) n))) [ true ↦ every-listed f (i + 1) n | false ↦ refl ]
-
-between-listed : (f : ℕ → Bool) (n : ℕ) → between f 0 n ≡ list_all f (range_with_len 0 n)
-unfolding between
-between-listed f n = ap (every f 0) (sub-zero n) ∙ every-listed f 0 n
 
 -- row x of a memory is by the rules of its entries
 unfoldable pub ruled_row : List ℕ → ℕ → Bool

@@ -5,8 +5,10 @@ ghost use Rattle.std.specs.Prelude.{◌≡◌};
 ghost use Rattle.model.specs.Registry.{consistent};
 ghost use Rattle.formed.specs.Registry.{registry_in, EntriesFormed};
 
+use store::Words;
+
 // "Do all kept bits equal the rules?"
-pub fn is_consistent(memory: &[u64]) -> bool
+pub fn is_consistent(memory: &Words) -> bool
     requires { EntriesFormed memory.now }
     ensures { result ≡ consistent (registry_in memory.now) }
 {

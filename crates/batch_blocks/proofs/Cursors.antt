@@ -6,22 +6,18 @@ use mathlib.Core.Option.{Option, none, some}
 use Prim.Native.Nat.{ℕ, zero, suc, ◌+◌, ◌<◌}
 use native.Mathlib.Decide.{dec_lt}
 use native.Mathlib.Omega.{arith}
-use lib.ListN.{set}
+use lib.ListN.{length, set}
 use Rattle.std.specs.Prelude.{Result, Ok, Err}
 use Rattle.block.specs.declared.Reason.{Reason}
-use Rattle.block.specs.declared.Reason.TheVariants.{TableFull}
 use Rattle.block.specs.Entry.{Container, Policy, Entry, container, policy}
-use Rattle.block.specs.Refusal.{reason_number, Read, refused, accepted}
+use Rattle.block.specs.Refusal.{Read, refused, accepted}
 use Rattle.block.specs.Reader.{read_entry}
-use Rattle.model.specs.declared.ContainerSlot.{ContainerSlot}
-use Rattle.model.specs.declared.PolicySlot.{PolicySlot}
 use Rattle.model.specs.Table.{Table, free, lowest_free}
 use Rattle.model.specs.Lowest.{FindsLowest}
 use Rattle.model.specs.Model.{Model, with_container, with_policy}
-use Rattle.model.specs.Calls.{Answer, refusal, container_at, policy_at}
+use Rattle.model.specs.Calls.{Answer, said}
 use Rattle.model.specs.ModelStep.{placing, placing_policy, admitting}
 use Rattle.model.proofs.Lowest.{lowest-below, finds-lowest}
-use Rattle.model.proofs.Agreement.{Sized}
 use Rattle.formed.specs.Registry.{model_in, EntriesFormed}
 use Rattle.entries.specs.Entries.{NoneFree}
 use Rattle.entries.proofs.FreeSlots.{none-free-yet}
@@ -30,7 +26,7 @@ use Rattle.answers.specs.declared.Admitted.{Admitted}
 use Rattle.answers.specs.declared.Admitted.TheVariants as admitted
 use Rattle.answers.specs.Answers.{admitted_answer}
 use Rattle.batch_blocks.specs.declared.Came.{Came}
-use Rattle.batch_blocks.specs.Blocks.{block_placed, slot_of, CameWith, FreeFrom}
+use Rattle.batch_blocks.specs.Blocks.{block_placed, slot_of, from_past, CameWith, FreeFrom}
 use Rattle.batch_blocks.proofs.Left.{left-model}
 
 -- ---- a table whose slots fill
@@ -58,73 +54,65 @@ module _ {A : Type 0} (x : A) where
       go j (yes l) h = stays-taken t i j ((((finds-lowest A t).0 i).0 e).below j l)
       go j (no l) h = let q : j ≡ i = omega arith in ap (free (set t i (some x))) q ∙ taken-now t i
 
--- ---- what an admission that gives an answer makes of the model
+-- ---- what an admission makes of a table, by the slot that its answer may say
 
-data Admits (p : Model) : Result Admitted Reason → Model → Type 0 where
-  kept : (r : Reason) → Admits p (Err r) p
-  container_came : (c : ContainerSlot) (x : Container) → lowest_free p.containers ≡ some c.0 → Admits p (Ok (admitted.Container c)) (with_container p c.0 (some x))
-  policy_came : (q : PolicySlot) (x : Policy) → lowest_free p.policies ≡ some q.0 → Admits p (Ok (admitted.Policy q)) (with_policy p q.0 (some x))
+record Fills {A : Type 0} (t : Table A) (o : Option ℕ) (t' : Table A) : Type 0 where
+  below : (i : ℕ) → o ≡ some i → i < length t
+  free : (j : ℕ) → NoneFree t j → NoneFree t' (from_past o j)
+
+module _ {A : Type 0} (t : Table A) where
+  stays : Fills t none t
+  stays = record { below = λ i e. cc; free = λ j h. h }
+
+  comes : (x : A) (i : ℕ) → lowest_free t ≡ some i → Fills t (some i) (set t i (some x))
+  comes x i h = record { below = λ j e. let q : i ≡ j = cc in rw (← q) (lowest-below t i h); free = λ j f. none-free-past x t i h }
 
 module _ (p : Model) where
-  refused-keeps : (n : ℕ) (r : Result Admitted Reason) → admitted_answer r ≡ refusal n → Admits p r p
-  refused-keeps n (Err k) e = kept k
-  refused-keeps n (Ok (admitted.Container c)) e = let z : ◌≡◌ {A = ℕ} 0 1 = cc in absurd (omega arith)
-  refused-keeps n (Ok (admitted.Policy q)) e = let z : ◌≡◌ {A = ℕ} 0 1 = cc in absurd (omega arith)
+  abbrev Filled : Model × Answer → Type 0
+  Filled s = Fills p.containers (said s.1).container s.0.containers × Fills p.policies (said s.1).policy s.0.policies
 
-  container-comes : (x : Container) (c : ℕ) → lowest_free p.containers ≡ some c → (r : Result Admitted Reason) → admitted_answer r ≡ container_at c → Admits p r (with_container p c (some x))
-  container-comes x c h (Err k) e = let z : ◌≡◌ {A = ℕ} 0 1 = cc in absurd (omega arith)
-  container-comes x c h (Ok (admitted.Container d)) e =
-      let q : d.0 ≡ c = cc in
-      subst (λ (i : ℕ). Admits p (Ok (admitted.Container d)) (with_container p i (some x))) q (container_came d x (h ∙ ap some (sym q)))
-  container-comes x c h (Ok (admitted.Policy q)) e = let z : ◌≡◌ {A = ℕ} 0 1 = cc in absurd (omega arith)
+  placing-fills : (x : Container) (o : Option ℕ) → lowest_free p.containers ≡ o → Filled (placing p x o)
+  unfolding placing with_container
+  placing-fills x none h = (stays p.containers, stays p.policies)
+  placing-fills x (some c) h = (comes p.containers x c h, stays p.policies)
 
-  policy-comes : (x : Policy) (q : ℕ) → lowest_free p.policies ≡ some q → (r : Result Admitted Reason) → admitted_answer r ≡ policy_at q → Admits p r (with_policy p q (some x))
-  policy-comes x q h (Err k) e = let z : ◌≡◌ {A = ℕ} 0 1 = cc in absurd (omega arith)
-  policy-comes x q h (Ok (admitted.Container c)) e = let z : ◌≡◌ {A = ℕ} 0 1 = cc in absurd (omega arith)
-  policy-comes x q h (Ok (admitted.Policy d)) e =
-      let i : d.0 ≡ q = cc in
-      subst (λ (i : ℕ). Admits p (Ok (admitted.Policy d)) (with_policy p i (some x))) i (policy_came d x (h ∙ ap some (sym i)))
+  placing-policy-fills : (x : Policy) (o : Option ℕ) → lowest_free p.policies ≡ o → Filled (placing_policy p x o)
+  unfolding placing_policy with_policy
+  placing-policy-fills x none h = (stays p.containers, stays p.policies)
+  placing-policy-fills x (some q) h = (stays p.containers, comes p.policies x q h)
 
-  placing-admits : (x : Container) (o : Option ℕ) → lowest_free p.containers ≡ o → (r : Result Admitted Reason) → admitted_answer r ≡ (placing p x o).1 → Admits p r (placing p x o).0
-  unfolding placing
-  placing-admits x none h r e = refused-keeps (reason_number TableFull) r e
-  placing-admits x (some c) h r e = container-comes x c h r e
-
-  placing-policy-admits : (x : Policy) (o : Option ℕ) → lowest_free p.policies ≡ o → (r : Result Admitted Reason) → admitted_answer r ≡ (placing_policy p x o).1 → Admits p r (placing_policy p x o).0
-  unfolding placing_policy
-  placing-policy-admits x none h r e = refused-keeps (reason_number TableFull) r e
-  placing-policy-admits x (some q) h r e = policy-comes x q h r e
-
-  admits : (o : Read Entry) (r : Result Admitted Reason) → admitted_answer r ≡ (admitting p o).1 → Admits p r (admitting p o).0
+  fills : (o : Read Entry) → Filled (admitting p o)
   unfolding admitting
-  admits (refused f) r e = refused-keeps (reason_number f.reason) r e
-  admits (accepted (container x)) r e = placing-admits x (lowest_free p.containers) refl r e
-  admits (accepted (policy x)) r e = placing-policy-admits x (lowest_free p.policies) refl r e
+  fills (refused f) = (stays p.containers, stays p.policies)
+  fills (accepted (container x)) = placing-fills x (lowest_free p.containers) refl
+  fills (accepted (policy x)) = placing-policy-fills x (lowest_free p.policies) refl
 
 -- ---- the slot, and the cursors
 
-admits-below : {p p' : Model} {r : Result Admitted Reason} → Sized p → Admits p r p' → slot_of r < 256
-admits-below {p} s (kept n) = omega arith
-admits-below {p} s (container_came c x h) = omega (arith, lowest-below p.containers c.0 h, s.containers)
-admits-below {p} s (policy_came q x h) = omega (arith, lowest-below p.policies q.0 h, s.policies)
+slot-below : (r : Result Admitted Reason) → ((i : ℕ) → (said (admitted_answer r)).container ≡ some i → i < 256) → ((i : ℕ) → (said (admitted_answer r)).policy ≡ some i → i < 128) → slot_of r < 256
+slot-below (Err k) f g = omega arith
+slot-below (Ok (admitted.Container c)) f g = f c.0 refl
+slot-below (Ok (admitted.Policy q)) f g = omega (arith, g q.0 refl)
 
 -- before the first block
 pub free-from-none : (p : Model) {came : Came} → came.containers.from ≡ 0 → came.policies.from ≡ 0 → FreeFrom p came
 free-from-none p e f = record { containers = rw e (none-free-yet p.containers); policies = rw f (none-free-yet p.policies) }
 
-admits-free-from : {p p' : Model} {r : Result Admitted Reason} {came came' : Came} → Admits p r p' → CameWith came r came' → FreeFrom p came → FreeFrom p' came'
-unfolding with_container with_policy
-admits-free-from {p} (kept n) w b = record { containers = rw w.container_from b.containers; policies = rw w.policy_from b.policies }
-admits-free-from {p} (container_came c x h) w b = record { containers = rw w.container_from (none-free-past x p.containers c.0 h); policies = rw w.policy_from b.policies }
-admits-free-from {p} (policy_came q x h) w b = record { containers = rw w.container_from b.containers; policies = rw w.policy_from (none-free-past x p.policies q.0 h) }
-
 module _ (m b : List ℕ) {m' : List ℕ} (r : Result Admitted Reason) (placed : (m', admitted_answer r) ≡ block_placed m b) where
-  placed-admits : Admits (model_in m) r (admitting (model_in m) (read_entry (model_in m).settings b)).0
+  abbrev now : Model
+  now = (admitting (model_in m) (read_entry (model_in m).settings b)).0
+
+  filled : Filled (model_in m) (now, admitted_answer r)
   unfolding block_placed
-  placed-admits = admits (model_in m) (read_entry (model_in m).settings b) r (ap (λ (s : List ℕ × Answer). s.1) placed)
+  filled =
+      let e = ap (λ (s : List ℕ × Answer). s.1) placed in
+      subst (λ (a : Answer). Filled (model_in m) (now, a)) (sym e) (fills (model_in m) (read_entry (model_in m).settings b))
 
   pub placed_below : slot_of r < 256
-  placed_below = admits-below (sized-in m) placed-admits
+  placed_below =
+      let s = sized-in m in
+      slot-below r (λ i e. omega (arith, filled.0.below i e, s.containers)) (λ i e. omega (arith, filled.1.below i e, s.policies))
 
   pub placed-free-from : EntriesFormed m → {came came' : Came} → CameWith came r came' → FreeFrom (model_in m) came → FreeFrom (model_in m') came'
-  placed-free-from ok {came} {came'} w h = subst (λ (p : Model). FreeFrom p came') (sym (left-model m b ok placed)) (admits-free-from placed-admits w h)
+  placed-free-from ok {came} {came'} w h =
+      rw (left-model m b ok placed) (record { containers = rw w.containers.from (filled.0.free came.containers.from h.containers); policies = rw w.policies.from (filled.1.free came.policies.from h.policies) })

@@ -8,6 +8,8 @@ use Rattle.model.specs.ModelStep.{admitting, admitting_block, model_step}
 use Rattle.model.specs.Registry.{Registry}
 use Rattle.formed.specs.Registry.{model_in, bits_in, registry_in, image, ValidEntries, EntriesFormed}
 use Rattle.formed.proofs.Acceptable.{registry-in-tables}
+use Rattle.formed.proofs.Fits.{fits_by, fits-image}
+use Rattle.formed.proofs.StoredLaws.{Fit}
 use Rattle.formed.proofs.Placed.{image-entries, image-model, image-says}
 use Rattle.steps.proofs.Valid.{valid-step}
 use Rattle.batch_blocks.specs.Blocks.{block_placed}
@@ -26,6 +28,9 @@ module _ (m b : List ℕ) (ok : EntriesFormed m) {m' : List ℕ} {a : Answer} (p
 
   pub left-formed : EntriesFormed m'
   left-formed = image-entries left valid said
+
+  pub left-fit : Fit m'
+  left-fit = fits_by (image left) (fits-image left valid) said
 
   pub left-model : model_in m' ≡ (admitting (model_in m) (read_entry (model_in m).settings b)).0
   left-model = image-model left valid said

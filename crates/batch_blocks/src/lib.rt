@@ -3,16 +3,15 @@
 #![tactic(auto)]
 
 ghost use Rattle.std.specs.Prelude.{◌≡◌, ◌<◌};
-ghost use Rattle.block.specs.Entry.{container, policy};
-ghost use Rattle.block.specs.Reader.{container_said, policy_said, AcceptedAs};
+ghost use Rattle.std.proofs.Math.Option.{some};
 ghost use Rattle.formed.specs.Registry.{model_in, EntriesFormed};
-ghost use Rattle.entries.specs.Entries.{NoneFree};
 ghost use Rattle.answers.specs.Answers.{admitted_answer};
-ghost use Rattle.batch_blocks.specs.Blocks.{block_placed, slot_of, OneMore, CameWith, FreeFrom};
+ghost use Rattle.batch_blocks.specs.Blocks.{block_placed, slot_of, ArrivedWith, CameWith, FreeFrom};
 
 use answers::Admitted;
 use block::{Reason, Sort};
 use model::{ContainerSlot, PolicySlot};
+use store::Words;
 
 // What came to a table in a batch: the slots that entries came to, and the slot from which on the next search begins.
 #[derive(Clone, Copy)]
@@ -32,7 +31,7 @@ impl Arrived {
     // One slot more, the lowest that was free.
     fn with(self, slot: usize) -> Arrived
         requires { slot < 256 }
-        ensures { OneMore self slot result }
+        ensures { ArrivedWith self (some slot) result }
     {
         Arrived {
             slots: row_sets::with(self.slots, slot),
@@ -41,45 +40,27 @@ impl Arrived {
     }
 }
 
-// The container of an accepted block comes to the lowest free slot.
-// Kept: one function for both tables would ask a trait for the entry that a block says, the change, its law and the variant, which is more
-// than the two.
-fn place_container_of(memory: &mut [u64], block: &[u8], from: usize) -> Result<Admitted, Reason>
-    requires entries_formed { EntriesFormed memory.old × NoneFree (model_in memory.old).containers from }
-    requires accepted_as { AcceptedAs (model_in memory.old).settings block.now (container (container_said block.now)) }
-    ensures { (memory.new, admitted_answer result) ≡ block_placed memory.old block.now }
-{
-    let Some(slot) = slot_search::free_from::<ContainerSlot>(memory, from) else {
-        return Err(Reason::TableFull);
-    };
-    placing::place_container(memory, slot.0, block);
-    Ok(Admitted::Container(slot))
-}
-
-// The policy of an accepted block comes to the lowest free slot.
-// Kept: as above.
-fn place_policy_of(memory: &mut [u64], block: &[u8], from: usize) -> Result<Admitted, Reason>
-    requires entries_formed { EntriesFormed memory.old × NoneFree (model_in memory.old).policies from }
-    requires accepted_as { AcceptedAs (model_in memory.old).settings block.now (policy (policy_said block.now)) }
-    ensures { (memory.new, admitted_answer result) ≡ block_placed memory.old block.now }
-{
-    let Some(slot) = slot_search::free_from::<PolicySlot>(memory, from) else {
-        return Err(Reason::TableFull);
-    };
-    placing::place_policy(memory, slot.0, block);
-    Ok(Admitted::Policy(slot))
-}
-
 // The entry of a block comes to the lowest free slot of its table; no stored bit changes. The block may be of any bytes.
-pub fn place_block(memory: &mut [u64], block: &[u8], came: Came) -> Result<Admitted, Reason>
+// Kept: an arm for each table, as at `free_slots::admit_entry`.
+pub fn place_block(memory: &mut Words, block: &[u8], came: Came) -> Result<Admitted, Reason>
     requires { EntriesFormed memory.old × FreeFrom (model_in memory.old) came }
     ensures result_after { (memory.new, admitted_answer result) ≡ block_placed memory.old block.now }
     ensures result_bound { slot_of result < 256 }
 {
     let sort = call_tests::test_block(memory, block)?;
     match sort {
-        Sort::Container => place_container_of(memory, block, came.containers.from),
-        Sort::Policy => place_policy_of(memory, block, came.policies.from),
+        Sort::Container => {
+            let free = slot_search::free_from::<ContainerSlot>(memory, came.containers.from);
+            let slot = free.ok_or(Reason::TableFull)?;
+            placing::place_container(memory, slot.0, block);
+            Ok(Admitted::Container(slot))
+        }
+        Sort::Policy => {
+            let free = slot_search::free_from::<PolicySlot>(memory, came.policies.from);
+            let slot = free.ok_or(Reason::TableFull)?;
+            placing::place_policy(memory, slot.0, block);
+            Ok(Admitted::Policy(slot))
+        }
     }
 }
 

@@ -1,5 +1,5 @@
 -- One block more, from none to all; then what is settled is what the admissions leave one after another, and the numbers and the tally are theirs.
-use mathlib.Core.Path.{◌≡◌, refl, sym, ap, ap₂, subst, ◌∙◌}
+use mathlib.Core.Path.{◌≡◌, sym, ap, ap₂, subst, ◌∙◌}
 use mathlib.Core.Bool.{Bool, true}
 use mathlib.Core.List.{List, [], ◌∷◌, ◌++◌, map, map-append, append_assoc}
 use Prim.Native.Nat.{ℕ, ◌+◌, ◌*◌, ◌≤◌}
@@ -14,7 +14,7 @@ use Rattle.block.specs.declared.Reason.{Reason}
 use Rattle.block.specs.Refusal.{reason_number, first_refusal}
 use Rattle.block.proofs.Cut.{blocks-count}
 use Rattle.model.specs.declared.Tally.{Tally}
-use Rattle.model.specs.Calls.{change, admit_batch, Answer, refusal, batch_put, numbers_of, pairs_of, written, tally_left, run}
+use Rattle.model.specs.Calls.{change, admit_batch, Answer, refusal, batch_put, numbers_of, pairs_of, written, tally_left, run, said}
 use Rattle.model.specs.Batch.{pair_of, is_taken, tallied_one, tallied, batch_answer}
 use Rattle.model.specs.Model.{Model}
 use Rattle.model.specs.ModelStep.{admitting_block}
@@ -34,16 +34,12 @@ use Rattle.call_tests.proofs.TestLaws.{reason_for}
 use Rattle.answers.specs.Answers.{admitted_answer, batched_answer, tally_after}
 use Rattle.answers.proofs.AnswerLaws.{returned, promised-refused}
 use Rattle.batch_blocks.specs.Blocks.{block_placed}
-use Rattle.batch_blocks.proofs.Left.{left-formed, left-model, left-bits}
+use Rattle.batch_blocks.proofs.Left.{left-formed, left-fit, left-model, left-bits}
 use Rattle.batch_blocks.proofs.Cursors.{placed-free-from, free-from-none}
 use Rattle.batches.specs.declared.Progress.{Progress}
 use Rattle.batches.specs.Progress.{batch_test, Begun, first_blocks, first_answers, TookBlock, BatchAt}
 use Rattle.batches.proofs.Blocks.{first-none, first-all, entries_next, answers_next}
-use Rattle.batches.proofs.CameLaws.{none_came, no-policy-came, containers-with, policies-with}
-
--- from the tally that it has
-pub begun-own : {t : Tally} {p : Progress} → Begun t p → Begun p.tally p
-begun-own g = record { containers = g.containers; policies = g.policies; container_from = g.container_from; policy_from = g.policy_from; tally = refl }
+use Rattle.batches.proofs.CameLaws.{none_came, came-with}
 
 module _ (m bs d : List ℕ) (t : Tally) where
   -- ---- none yet
@@ -52,14 +48,15 @@ module _ (m bs d : List ℕ) (t : Tally) where
   unfolding first_answers
   no-answers = ap (λ (l : List (List ℕ)). (run admitting_block (model_in m) l).1) (first-none bs)
 
-  pub batch-none : well_formed m ≡ true → {p : Progress} → Begun t p → BatchAt m bs d t 0 m d p
-  unfolding entries_placed
-  batch-none formed g = record {
+  pub batch-none : well_formed m ≡ true → Fit m → {p : Progress} → Begun t p → BatchAt m bs d t 0 m d p
+  unfolding entries_placed containers_came policies_came
+  batch-none formed fit g = record {
     formed = formed-entries m formed;
+    fits = fit;
     placed = ap (entries_placed (registry_in m)) (sym (first-none bs));
     free = free-from-none (model_in m) g.container_from g.policy_from;
-    containers = g.containers ∙ none_came ∙ ap containers_came (sym no-answers);
-    policies = g.policies ∙ no-policy-came ∙ ap policies_came (sym no-answers);
+    containers = g.containers ∙ none_came (λ x. (said x).container) ∙ ap containers_came (sym no-answers);
+    policies = g.policies ∙ none_came (λ x. (said x).policy) ∙ ap policies_came (sym no-answers);
     tally = g.tally ∙ ap (λ (l : List Answer). tallied t (map pair_of l)) (sym no-answers);
     list = puts-as (puts_none (omega arith)) (ap (λ (l : List Answer). numbers_of (map pair_of l)) (sym no-answers));
   }
@@ -121,12 +118,14 @@ module _ (m bs d : List ℕ) (t : Tally) where
           (subst (λ (z : List ℕ). Puts d 0 (numbers_of (map pair_of (first_answers m bs (i + 1)))) z (2 * i + 1 + 1)) (sym w.list) (puts-as v q))
 
       next : BatchAt m bs d t (i + 1) m'' f p'
+      unfolding containers_came policies_came
       next = record {
         formed = left-formed m' block g.formed w.placed;
+        fits = left-fit m' block g.formed w.placed;
         placed = registry-here;
         free = placed-free-from m' block w.answer w.placed g.formed w.came g.free;
-        containers = w.came.containers ∙ containers-with (first_answers m bs i) g.containers w.answer ∙ ap containers_came (sym answers-here);
-        policies = w.came.policies ∙ policies-with (first_answers m bs i) g.policies w.answer ∙ ap policies_came (sym answers-here);
+        containers = w.came.containers.slots ∙ came-with (λ x. (said x).container) (first_answers m bs i) a g.containers ∙ ap containers_came (sym answers-here);
+        policies = w.came.policies.slots ∙ came-with (λ x. (said x).policy) (first_answers m bs i) a g.policies ∙ ap policies_came (sym answers-here);
         tally =
             w.tally
             ∙ ap (λ (x : Tally). tallied_one x (is_taken (pair_of a))) g.tally
@@ -156,9 +155,8 @@ module _ (m bs d : List ℕ) (t : Tally) where
     all_placed = g.placed ∙ ap (entries_placed r) (first-all bs k whole)
 
     -- no stored bit has moved, and no slot was freed
-    pub placed-formed : Fit m' → well_formed m' ≡ true
-    placed-formed fit =
-        (formed-apart m' fit).1 (g.formed, subst BitsStand (sym all_placed) (placed-stand r (blocks_of bs) (formed-memory m formed).acceptable.bits))
+    pub placed-formed : well_formed m' ≡ true
+    placed-formed = (formed-apart m' g.fits).1 (g.formed, subst BitsStand (sym all_placed) (placed-stand r (blocks_of bs) (formed-memory m formed).acceptable.bits))
 
     module _ (n : ℕ) (passed : first_refusal (batch_checks bs n) ≡ Ok tt) {f : List ℕ}
         (settles : f ≡ image (settled (bit_at p.came.containers.slots) (bit_at p.came.policies.slots) (registry_in m'))) where

@@ -1,10 +1,10 @@
 -- The first blocks of a batch: one more is the next 512 bytes, and at the end they are all.
-use mathlib.Core.Path.{◌≡◌, ap, ◌∙◌}
+use mathlib.Core.Path.{◌≡◌, sym, ap, ap₂, ◌∙◌}
 use mathlib.Core.List.{List, [], ◌∷◌, ◌++◌}
 use Prim.Native.Nat.{ℕ, ◌+◌, ◌*◌, ◌/◌, ◌%◌, ◌≤◌}
 use native.Mathlib.Omega.{arith}
-use lib.ListN.{length, take, drop, length-drop}
-use lib.Seq.{length-take-le, take_all, take-add}
+use lib.ListN.{length, take, drop, length-drop, length-append}
+use lib.Seq.{length-take-le, take_all, take-add, take-append_seam, drop-append_seam, drop-drop}
 use Rattle.block.specs.Cut.{blocks_of}
 use Rattle.block.proofs.Cut.{blocks_end, blocks_last, blocks-count}
 use Rattle.model.specs.Calls.{Answer, run}
@@ -52,6 +52,16 @@ module _ (bs : List ℕ) (i : ℕ) (within : 512 * i + 512 ≤ length bs) where
     pub answers_next : first_answers m bs (i + 1) ≡ first_answers m bs i ++ ((admitting_block entries block).1 ∷ [])
     unfolding first_answers
     answers_next = ap (λ (r : Model × List Answer). r.1) run-next
+
+-- what is left after i blocks, cut into the next one and the others
+pub next-block : (bs : List ℕ) (i : ℕ) (b rest : List ℕ) → drop (512 * i) bs ≡ b ++ rest → length b ≡ 512
+    → (b ≡ take 512 (drop (512 * i) bs)) × (rest ≡ drop (512 * (i + 1)) bs) × (512 * i + 512 ≤ length bs)
+next-block bs i b rest cut whole =
+    let n : 512 * i + length b ≡ 512 * (i + 1) = omega (arith, whole) in (
+      sym (ap₂ take (sym whole) cut ∙ take-append_seam b rest),
+      sym (drop-append_seam b rest) ∙ ap (drop (length b)) (sym cut) ∙ drop-drop (length b) (512 * i) bs ∙ ap (λ k. drop k bs) n,
+      omega (arith, ap length cut, length-drop (512 * i) bs, length-append b rest, whole),
+    )
 
 -- ---- how many there are
 

@@ -1,5 +1,5 @@
 -- How far a batch has come.
-use Rattle.std.specs.Prelude.{◌≡◌, List, map, ℕ, ◌+◌, ◌*◌, take, set, Result, ⊤}
+use Rattle.std.specs.Prelude.{◌≡◌, List, map, ℕ, ◌+◌, ◌*◌, ◌^◌, ◌<◌, take, set, Result, ⊤}
 use Rattle.bitrow.specs.Bit.{bit_at}
 use Rattle.bitrow.specs.Set.{nothing}
 use Rattle.buffer.specs.Buffer.{Puts}
@@ -12,6 +12,7 @@ use Rattle.model.specs.Batch.{pair_of, is_taken, tallied_one, tallied}
 use Rattle.model.specs.ModelStep.{admitting_block}
 use Rattle.model.specs.OnePass.{containers_came, policies_came, entries_placed}
 use Rattle.model.specs.Refusals.{batch_checks}
+use Rattle.store.specs.Layout.{word_at}
 use Rattle.formed.specs.Registry.{model_in, registry_in, EntriesFormed}
 use Rattle.call_tests.specs.Tests.{reason_of}
 use Rattle.answers.specs.declared.Admitted.{Admitted}
@@ -49,6 +50,7 @@ pub record TookBlock (m b d : List ℕ) (i : ℕ) (p : Progress) (m' e : List �
 -- after the first i blocks of bs, from the memory m, the list d and the tally t: the memory m', the list e and the progress p
 pub record BatchAt (m bs d : List ℕ) (t : Tally) (i : ℕ) (m' e : List ℕ) (p : Progress) : Type 0 where
   pub formed : EntriesFormed m'
+  pub fits : (k : ℕ) → word_at m' k < 2 ^ 64
   pub placed : registry_in m' ≡ entries_placed (registry_in m) (first_blocks bs i)
   pub free : FreeFrom (model_in m') p.came
   pub containers : bit_at p.came.containers.slots ≡ containers_came (first_answers m bs i)

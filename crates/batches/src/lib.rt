@@ -1,7 +1,7 @@
 // A batch of admissions in one pass: its blocks are placed one after another, then what they touch is set once.
 #![tactic(auto)]
 
-ghost use Rattle.std.specs.Prelude.{◌≡◌, true, ◌+◌, ◌*◌, ◌/◌, ◌%◌, ◌≤◌, ◌<◌, length, take};
+ghost use Rattle.std.specs.Prelude.{◌≡◌, true, ◌+◌, ◌*◌, ◌/◌, ◌%◌, ◌≤◌, ◌<◌, length, take, IfOk};
 ghost use Rattle.buffer.specs.Buffer.{overwritten};
 ghost use Rattle.block.specs.Cut.{blocks_of};
 ghost use Rattle.model.specs.Calls.{change, admit_batch, written, tally_left};
@@ -16,6 +16,7 @@ use answers::Admitted;
 use batch_blocks::{Arrived, Came};
 use block::Reason;
 use model::Tally;
+use store::Words;
 
 // How far a batch has come: what came, and the tally.
 #[derive(Clone, Copy)]
@@ -41,7 +42,7 @@ fn begin(tally: Tally) -> Progress
 }
 
 // The two numbers of a block: 0 and its slot, or why it was refused and 0.
-// Kept: slots are `usize`, from which no `From` goes to `u16`; that each is below 256 is proved.
+// Kept: the `as`: no `From` goes from `usize` to `u16`, and a `TryFrom` would add a refusal that cannot come, since a slot is below 256.
 fn numbers(answer: Result<Admitted, Reason>) -> (u16, u16)
     requires { slot_of answer < 256 }
     ensures { result ≡ pair_of (admitted_answer answer) }
@@ -55,11 +56,11 @@ fn numbers(answer: Result<Admitted, Reason>) -> (u16, u16)
     }
 }
 
-// Kept: the list with the number of the block, and the tally beside it: they are the call's own arguments, and the definition of how far a
-// batch has come speaks of the whole list.
 // Block i of a batch: its entry is placed and its two numbers are put into the list.
+// Kept: the list with the number of the block, and the tally beside it: a struct of them would be made and taken apart at each block, and
+// the definition of how far a batch has come speaks of the whole list.
 fn take_block(
-    memory: &mut [u64],
+    memory: &mut Words,
     block: &[u8],
     answers: &mut [u16],
     i: usize,
@@ -78,23 +79,24 @@ fn take_block(
     }
 }
 
-// All blocks of a batch, one after another; no stored bit changes.
-// Kept: as above; that the length is one of whole blocks was tested by the call.
-fn take_blocks(memory: &mut [u64], blocks: &[u8], answers: &mut [u16], tally: Tally) -> Progress
-    requires { (well_formed memory.old ≡ true) × (length blocks.now % 512 ≡ 0) × (2 * (length blocks.now / 512) ≤ length answers.old) }
+// All whole blocks of a batch, one after another; no stored bit changes.
+// Kept: as at `take_block`.
+fn take_blocks(memory: &mut Words, blocks: &[u8], answers: &mut [u16], tally: Tally) -> Progress
+    requires { (well_formed memory.old ≡ true) × (2 * (length blocks.now / 512) ≤ length answers.old) }
     ensures { BatchAt memory.old blocks.now answers.old tally (length blocks.now / 512) memory.new answers.new result }
 {
     let mut progress = begin(tally);
-    for i in 0..blocks.len() / 512 {
-        let at = 512 * i;
-        progress = take_block(memory, &blocks[at..at + 512], answers, i, progress);
+    for (i, block) in blocks.chunks_exact(512).enumerate() {
+        progress = take_block(memory, block, answers, i, progress);
     }
     progress
 }
 
 // Refusals 14 and 13.
 fn test_batch(blocks: &[u8], numbers: usize) -> Result<(), Reason>
-    ensures { result ≡ batch_test blocks.now numbers }
+    ensures result_value { result ≡ batch_test blocks.now numbers }
+    ensures whole { IfOk result (λ t. length blocks.now % 512 ≡ 0) }
+    ensures room { IfOk result (λ t. 2 * (length blocks.now / 512) ≤ numbers) }
 {
     let length = blocks.len();
     if 65536 < length || length % 512 != 0 {
@@ -118,6 +120,8 @@ pub fn admit_batch(
     ensures answers_after { answers.new ≡ overwritten answers.old (written (memory_step memory.old (change (admit_batch blocks.now (length answers.old) tally))).1) }
     ensures tally_value { tally_after tally result ≡ tally_left tally (memory_step memory.old (change (admit_batch blocks.now (length answers.old) tally))).1 }
 {
+    // Kept: as at `admission::admit`.
+    let memory: &mut Words = memory.as_mut_array().ok_or(Reason::MemorySize)?;
     call_tests::test_memory(memory)?;
     test_batch(blocks, answers.len())?;
     let done = take_blocks(memory, blocks, answers, tally);

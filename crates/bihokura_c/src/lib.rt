@@ -1,5 +1,6 @@
 // The calls of `registry_c` with the names that C links. Each calls the one of its name and says what that says.
-// Kept: a crate is a library, for crates above it, or a static library, for C, so that each call stands in both.
+// Kept: the C interface: numbers for slots and kinds, and the names of `registry_c`, since a crate is a library, for crates above it, or a
+// static library, for C.
 #![tactic(auto)]
 
 ghost use Rattle.std.specs.Prelude.{◌≡◌, length};

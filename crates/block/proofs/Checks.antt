@@ -70,15 +70,6 @@ refuse-passed : (w : Reason) (f : Option ℕ) (rest : Result ⊤ Refusal) → (r
 refuse-passed w None rest = (λ e. (refl, e), λ e. e.1)
 refuse-passed w (Some p) rest = (λ e. (cc, cc), λ e. cc)
 
--- a check answered by itself: what it lets through goes on to the checks after it, and its refusal stands before them
-pub refuse-past : (w : Reason) (f : Option ℕ) (rest : Result ⊤ Refusal) → refuse w f (Ok tt) ≡ Ok tt → refuse w f rest ≡ rest
-refuse-past w None rest e = refl
-refuse-past w (Some p) rest e = cc
-
-pub refuse-stops : (w : Reason) (f : Option ℕ) (rest : Result ⊤ Refusal) (r : Refusal) → refuse w f (Ok tt) ≡ Err r → refuse w f rest ≡ Err r
-refuse-stops w None rest r e = cc
-refuse-stops w (Some p) rest r e = e
-
 pub passed-clear : (cs : List Check) → (first_refusal cs ≡ Ok tt) ↔ Clear cs
 passed-clear [] = (λ e. tt, λ c. refl)
 passed-clear (c ∷ cs) =

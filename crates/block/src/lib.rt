@@ -7,50 +7,37 @@ ghost use Rattle.block.specs.Reader.{direction_of};
 ghost use Rattle.block.specs.Refusal.{reason_number};
 ghost use Rattle.block.specs.Written.{direction_number};
 
-// Why a call or a block is refused, in the order of document 01's list, the last two of document 02.
+// Why a call or a block is refused, each with its number in document 01's list, the last two in document 02.
 #[derive(Clone, Copy, PartialEq, Eq)]
 pub enum Reason {
-    MemorySize,
-    NotWellFormed,
-    BlockLength,
-    Checksum,
-    Kind,
-    Limit,
-    Range,
-    Order,
-    Unused,
-    BeyondTable,
-    FreeSlot,
-    TableFull,
-    BufferLength,
-    BatchLength,
+    MemorySize = 1,
+    NotWellFormed = 2,
+    BlockLength = 3,
+    Checksum = 4,
+    Kind = 5,
+    Limit = 6,
+    Range = 7,
+    Order = 8,
+    Unused = 9,
+    BeyondTable = 10,
+    FreeSlot = 11,
+    TableFull = 12,
+    BufferLength = 13,
+    BatchLength = 14,
 }
 
 impl Reason {
-    // Its number in the documents, from 1 on.
+    // Its number in the documents.
+    // Kept: a method: `reason.number()` says what the number is, where `u8::from(reason)` would not.
     pub fn number(self) -> u8
         ensures { result ≡ reason_number self }
     {
-        match self {
-            Reason::MemorySize => 1,
-            Reason::NotWellFormed => 2,
-            Reason::BlockLength => 3,
-            Reason::Checksum => 4,
-            Reason::Kind => 5,
-            Reason::Limit => 6,
-            Reason::Range => 7,
-            Reason::Order => 8,
-            Reason::Unused => 9,
-            Reason::BeyondTable => 10,
-            Reason::FreeSlot => 11,
-            Reason::TableFull => 12,
-            Reason::BufferLength => 13,
-            Reason::BatchLength => 14,
-        }
+        self as u8
     }
 }
 
 // A refusal of a block: its reason, and the position at fault in the block, 0 where there is none.
+// Kept: 0 and no `Option`: each check of the definitions has a position, and those without one have 0 (`model` `where0`).
 #[derive(Clone, Copy, PartialEq, Eq)]
 pub struct Refusal {
     pub reason: Reason,
@@ -73,6 +60,7 @@ pub enum Sort {
 }
 
 // The system key is 0 where no system label is set.
+// Kept: 0 and no `Option`: it is the number in the block and in the memory's word.
 #[derive(Clone, Copy)]
 pub struct Settings {
     pub user_key: u64,
@@ -88,7 +76,7 @@ pub enum Direction {
 }
 
 // By the number that blocks and memory have: 1 ingress, 2 egress.
-// Kept: a number, since it is made from the byte of a block and the word of a slot, of any value.
+// Kept: the number: it is the format's, in a block's byte and a slot's word, and either may hold any.
 impl From<u64> for Direction {
     ghost from_gives = { λ number direction. direction ≡ direction_of number };
 

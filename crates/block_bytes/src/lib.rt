@@ -14,16 +14,17 @@ pub struct Span {
 }
 
 // Two bytes, the high one first.
-// Kept: a position beside the block, since what is at fault is told by its position in the whole block.
+// Kept: a position beside the block: a slice would be no plainer, since what is at fault is told by its position in the whole block.
 pub fn number_at(block: &[u8], at: usize) -> u64
     requires { at + 1 < length block.now }
     ensures { (result ≡ number_at block.now at) × (result ≤ 65535) }
 {
-    u64::from(block[at]) * 256 + u64::from(block[at + 1])
+    u64::from(u16::from_be_bytes([block[at], block[at + 1]]))
 }
 
 // The sum over the first `end` bytes of byte times (its position + 1).
-// Kept: the end beside the block, as at `checksum_to`.
+// Kept: the end beside the block, as at `checksum_to`; and a counter: a `zip` with
+// the places would be no plainer, since the sum's law is over the bytes, and a zip yields pairs.
 fn weighted_sum(block: &[u8; 512], end: usize) -> u64
     requires { end ≤ 510 }
     ensures { result ≡ weighted block.now end }

@@ -1,6 +1,6 @@
 -- What the tests say of a call that meets their checks first: refused by a test, the call is refused so; past it, the memory is well
 -- formed and an entry stands at the slot.
-use mathlib.Core.Path.{◌≡◌, refl, ap, ◌∙◌}
+use mathlib.Core.Path.{◌≡◌, refl, sym, ap, ◌∙◌}
 use mathlib.Core.Bool.{Bool, true, false, not, cond}
 use mathlib.Core.List.{List, [], ◌∷◌, ◌++◌}
 use mathlib.Core.Option.{none, some}
@@ -8,32 +8,29 @@ use Prim.Native.Nat.{ℕ, ◌+◌, ◌*◌, ◌<◌}
 use native.Mathlib.Omega.{arith}
 use lib.Dec.{eqb, leb}
 use lib.ListN.{length}
-use borrow.Author.Tests.{leb-false, eqb-false, eq-eqb, ne_eqb}
+use borrow.Author.Tests.{leb-false, eq-eqb, ne_eqb}
 use Rattle.block.specs.declared.Refusal.{Refusal}
-use Rattle.std.specs.Prelude.{Result, Ok, Err, ⊤}
+use Rattle.std.specs.Prelude.{Result, Ok, Err, ⊤, IfOk}
 use Rattle.block.specs.declared.Reason.{Reason}
 use Rattle.block.specs.declared.Reason.TheVariants.{MemorySize, NotWellFormed, BeyondTable, FreeSlot}
 use Rattle.block.specs.declared.Sort.{Sort}
-use Rattle.block.specs.declared.Sort.TheVariants.{Container as SortContainer, Policy as SortPolicy}
 use Rattle.block.specs.Entry.{Settings, Entry, container, policy}
 use Rattle.block.specs.Refusal.{reason_number, check, first_refusal, Read, refused, accepted, read_unless}
 use Rattle.block.specs.Reader.{entry_checks, is_container, container_said, policy_said, entry_said, read_entry, AcceptedAs}
 use Rattle.block.specs.Reading.{sort_of, read_sort}
 use Rattle.model.specs.Table.{Table, is_free, at, free}
-use Rattle.model.specs.Model.{container_slots, policy_slots}
 use Rattle.model.specs.Calls.{Call, refusal}
 use Rattle.model.specs.Refusals.{where0, slot_checks, refusals}
 use Rattle.model.proofs.Tables.{free-at}
 use Rattle.model.proofs.Agreement.{or_refusal, first-append}
-use Rattle.store.specs.Layout.{memory_words, containers_start, container_words, container_start, policies_start, policy_words, word_at}
+use Rattle.store.specs.Layout.{memory_words, word_at}
 use Rattle.store.proofs.Image.{length-tab, get_or-tab}
-use Rattle.formed.specs.Words.{part_in, policy_at}
-use Rattle.formed.specs.Registry.{model_in, registry_in, well_formed}
+use Rattle.formed.specs.Registry.{registry_in, well_formed}
 use Rattle.entries.specs.Entries.{free_in}
-use Rattle.entries.specs.Tables.{slot_in, Tabled, container_tabled, policy_tabled}
+use Rattle.entries.specs.Tables.{slot_in, Tabled}
 use Rattle.steps.specs.MemoryStep.{other_size, formed_check, meets_formed, memory_refusals, memory_outcome, memory_step}
 use Rattle.steps.proofs.Outcomes.{step-refused}
-use Rattle.call_tests.specs.Tests.{reason_of, memory_test, slot_test}
+use Rattle.call_tests.specs.Tests.{reason_of, memory_test, slot_test, said_as}
 
 -- ---- a test's answer
 
@@ -68,15 +65,6 @@ module _ (m : List ℕ) where
       ap (λ cs. memory_outcome m call (first_refusal (size ∷ (cs ++ rest)))) o
       ∙ ap (memory_outcome m call) (first-append (size ∷ formed_check m) rest ∙ ap (λ t. or_refusal t (first_refusal rest)) f.1)
       ∙ ap (λ w. (m, refusal (reason_number w))) f.2
-
-  pub memory-passed : {u : ⊤} → memory_test m ≡ Ok u → well_formed m ≡ true
-  unfolding memory_test
-  memory-passed {u} e = pick (other_size m) (well_formed m) refl e
-    where
-      pick : (s t : Bool) → well_formed m ≡ t → reason_of (first_refusal (check MemorySize (where0 s) ∷ check NotWellFormed (where0 (not t)) ∷ [])) ≡ Ok u → well_formed m ≡ true
-      pick true t w e = cc
-      pick false false w e = cc
-      pick false true w e = w
 
 -- ---- 10 and 11
 
@@ -130,42 +118,24 @@ module _ {A : Type 0} {m : List ℕ} {start words n : ℕ} {entry : ℕ → A} {
       free-at t i (omega arith) ∙ ap is_free (entry-at i h) ∙ free-if (eqb (word_at m (start + words * i)) 0) (entry i)
 
   -- past both tests an entry stands there
-  passed-in : (i : ℕ) {u : ⊤} → test i ≡ Ok u → (i < n) × (at t i ≡ some (entry i))
+  entry-stands : (i : ℕ) {u : ⊤} → test i ≡ Ok u → (i < n) × (at t i ≡ some (entry i))
   unfolding free_in
-  passed-in i e =
+  entry-stands i e =
       let p = slot-passed n (free_in m start words) i e in
       (p.0, entry-at i p.0 ∙ ap (λ b. cond b none (some (entry i))) p.1)
 
+  pub stands-if : (i : ℕ) (o : Result ⊤ Reason) → o ≡ test i → IfOk o (λ u. i < n) × IfOk o (λ u. at t i ≡ some (entry i))
+  stands-if i (Ok u) e = entry-stands i (sym e)
+  stands-if i (Err r) e = (tt, tt)
+
   -- a call that meets the checks of one slot alone
-  refused-in : well_formed m ≡ true → (call : Call) (i : ℕ) {r : Reason} → refusals (registry_in m) call ≡ slot_checks n t i → test i ≡ Err r
+  pub slot-refused : well_formed m ≡ true → (call : Call) (i : ℕ) {r : Reason} → refusals (registry_in m) call ≡ slot_checks n t i → test i ≡ Err r
       → memory_step m call ≡ (m, refusal (reason_number r))
   unfolding slot_test
-  refused-in formed call i {r} o e =
+  slot-refused formed call i {r} o e =
       let f = reason_for (slot_tests (leb n i) (free_in m start words i)) e in
       step-refused m formed call f.0 (ap first_refusal o ∙ slot-checks n (free_in m start words) i t (tabled-free i) ∙ f.1)
       ∙ ap (λ w. (m, refusal (reason_number w))) f.2
-
-module _ (m : List ℕ) where
-  abbrev pub container_test : ℕ → Result ⊤ Reason
-  container_test = slot_test container_slots (free_in m containers_start container_words)
-
-  abbrev pub policy_test : ℕ → Result ⊤ Reason
-  policy_test = slot_test policy_slots (free_in m policies_start policy_words)
-
-  pub container-passed : (c : ℕ) {u : ⊤} → container_test c ≡ Ok u → (c < container_slots) × (at (model_in m).containers c ≡ some (part_in m (container_start c)))
-  container-passed c e = passed-in (container_tabled m) c e
-
-  pub policy-passed : (q : ℕ) {u : ⊤} → policy_test q ≡ Ok u → (q < policy_slots) × (at (model_in m).policies q ≡ some (policy_at m q))
-  policy-passed q e = passed-in (policy_tabled m) q e
-
-  module _ (formed : well_formed m ≡ true) (call : Call) (r : Reason) where
-    pub container-refused : (c : ℕ) → refusals (registry_in m) call ≡ slot_checks container_slots (model_in m).containers c → container_test c ≡ Err r
-        → memory_step m call ≡ (m, refusal (reason_number r))
-    container-refused c o e = refused-in (container_tabled m) formed call c o e
-
-    pub policy-refused : (q : ℕ) → refusals (registry_in m) call ≡ slot_checks policy_slots (model_in m).policies q → policy_test q ≡ Err r
-        → memory_step m call ≡ (m, refusal (reason_number r))
-    policy-refused q o e = refused-in (policy_tabled m) formed call q o e
 
 -- ---- 3 to 9
 
@@ -186,20 +156,14 @@ module _ (s : Settings) (b : List ℕ) where
       pick (Ok t) h = (refl, let w : sort_of (entry_said b) ≡ x = cc in w)
       pick (Err f) h = cc
 
-  pub entry-container : read_sort (read_entry s b) ≡ Ok SortContainer → AcceptedAs s b (container (container_said b))
+  entry-as : (x : Sort) → read_sort (read_entry s b) ≡ Ok x → AcceptedAs s b (said_as x b)
   unfolding entry_said
-  entry-container e = let p = entry-read SortContainer e in p.0 ∙ pick (is_container b) p.1
+  entry-as x e = let p = entry-read x e in p.0 ∙ ap accepted (sym (own (is_container b)) ∙ ap (λ x. said_as x b) p.1)
     where
-      pick : (t : Bool) → sort_of (cond t (container (container_said b)) (policy (policy_said b))) ≡ SortContainer
-          → accepted (cond t (container (container_said b)) (policy (policy_said b))) ≡ accepted (container (container_said b))
-      pick true h = refl
-      pick false h = cc
+      own : (t : Bool) → said_as (sort_of (cond t (container (container_said b)) (policy (policy_said b)))) b ≡ cond t (container (container_said b)) (policy (policy_said b))
+      own true = refl
+      own false = refl
 
-  pub entry-policy : read_sort (read_entry s b) ≡ Ok SortPolicy → AcceptedAs s b (policy (policy_said b))
-  unfolding entry_said
-  entry-policy e = let p = entry-read SortPolicy e in p.0 ∙ pick (is_container b) p.1
-    where
-      pick : (t : Bool) → sort_of (cond t (container (container_said b)) (policy (policy_said b))) ≡ SortPolicy
-          → accepted (cond t (container (container_said b)) (policy (policy_said b))) ≡ accepted (policy (policy_said b))
-      pick true h = cc
-      pick false h = refl
+  pub entries-as : (o : Result Sort Refusal) → read_sort (read_entry s b) ≡ o → IfOk o (λ x. AcceptedAs s b (said_as x b))
+  entries-as (Ok x) e = entry-as x e
+  entries-as (Err f) e = tt

@@ -3,6 +3,10 @@ use Rattle.std.specs.Prelude.{Bool, List, [], ◌∷◌, ℕ, Result, Ok, Err, �
 use Rattle.block.specs.declared.Reason.{Reason}
 use Rattle.block.specs.declared.Reason.TheVariants.{MemorySize, BeyondTable, FreeSlot}
 use Rattle.block.specs.declared.Refusal.{Refusal}
+use Rattle.block.specs.declared.Sort.{Sort}
+use Rattle.block.specs.declared.Sort.TheVariants as sort
+use Rattle.block.specs.Entry.{Entry, container, policy}
+use Rattle.block.specs.Reader.{container_said, policy_said}
 use Rattle.block.specs.Refusal.{check, first_refusal}
 use Rattle.model.specs.Refusals.{where0, beyond}
 use Rattle.steps.specs.MemoryStep.{other_size, formed_check}
@@ -20,3 +24,8 @@ memory_test m = reason_of (first_refusal (check MemorySize (where0 (other_size m
 -- 10 and 11 of slot i of a table of so many slots, of which these are free
 unfoldable pub slot_test : ℕ → (ℕ → Bool) → ℕ → Result ⊤ Reason
 slot_test size free i = reason_of (first_refusal (check BeyondTable (where0 (beyond size i)) ∷ check FreeSlot (where0 (free i)) ∷ []))
+
+-- what a block says as an entry of that sort
+abbrev pub said_as : Sort → List ℕ → Entry
+said_as sort.Container b = container (container_said b)
+said_as sort.Policy b = policy (policy_said b)

@@ -3,7 +3,7 @@ use mathlib.Core.Path.{◌≡◌, refl, sym, ap, ◌∙◌}
 use mathlib.Core.Bool.{Bool, true, false, ◌||◌, cond}
 use mathlib.Core.List.{List}
 use mathlib.Core.Option.{Option, none, some}
-use Prim.Native.Nat.{ℕ, zero, suc, ◌-◌, ◌/◌, ◌%◌, ◌<◌, ◌≤◌}
+use Prim.Native.Nat.{ℕ, zero, suc, ◌-◌, ◌/◌, ◌%◌, ◌^◌, ◌<◌, ◌≤◌}
 use native.Mathlib.Nat.{sub-zero}
 use native.Mathlib.Omega.{arith}
 use lib.Dec.{eqb}
@@ -30,6 +30,7 @@ use Rattle.formed.proofs.Back.{image-written}
 use Rattle.formed.proofs.Acceptable.{containers-size}
 use Rattle.formed.proofs.Reading.{entries-hold}
 use Rattle.formed.proofs.Placed.{holds-container}
+use Rattle.formed.proofs.Fits.{fits_by, fits-slot, fits_row, fits-column, fits-cleared}
 use Rattle.formed.proofs.StoredLaws.{Fit, by_part, stored-matrix, stored-selected, stored-allowed, by-table}
 use Rattle.container_bits.specs.ContainerBits.{bits_set}
 
@@ -134,6 +135,12 @@ module _ (r : Registry) (c : ℕ) (hc : c < container_slots) (t : Bits) {row col
       let h3 = holds-column selected_band c selected h2 (omega arith) (omega arith, omega arith) hc in
       holds_as (holds-column allowed_band c allowed h3 (omega arith) (omega arith, omega arith) hc) (contents_of renewed) renewed-same
 
+-- words below 2 ^ 64 stay so
+pub fits_bits : (m : List ℕ) (c : ℕ) (row column selected allowed : List ℕ) → Fit m → Fit row → Fit (bits_set m c row column selected allowed)
+unfolding bits_set
+fits_bits m c row column selected allowed h g =
+    fits-column _ allowed_band c allowed (fits-column _ selected_band c selected (fits-column _ matrix_band c column (fits_row m c row h g)))
+
 -- ---- a container that goes: "a bit of an empty place being clear"
 
 on-false : {A : Type 0} (o : Option A) → on (λ x. false) o ≡ false
@@ -161,14 +168,16 @@ module _ (m : List ℕ) (ok : EntriesFormed m) (c : ℕ) (hc : c < container_slo
   unfolding with_container
   free-slot = let n = containers-size m in get_or-set_same held.model.containers c none none (omega arith)
 
-  pub container-taken : (clear : List ℕ) {d e : List ℕ} → bit_at clear ≡ nothing → d ≡ slot_set m (container_start c) container_words (λ k. 0)
-      → e ≡ bits_set d c clear clear clear clear → Fit e → e ≡ image (change_container held c none)
+  pub container-taken : Fit m → (clear : List ℕ) {d e : List ℕ} → Fit clear → bit_at clear ≡ nothing → d ≡ slot_set m (container_start c) container_words (λ k. 0)
+      → e ≡ bits_set d c clear clear clear clear → e ≡ image (change_container held c none)
   unfolding change_container container_placed
-  container-taken clear {d} {e} z v q fit =
+  container-taken fit clear {d} {e} few z v q =
       let p = with_container held.model c none in
+      let free : Fit d = fits_by _ (fits-slot m (container_start c) container_words (λ k. 0) fit (λ k l. omega arith)) v in
       image-written (change_container held c none) e
       (holds_by (holds-bits (container_placed held c none) c hc (computed_bits p) (free-bits p c free-slot clear z)
-      (holds_by (holds-container held c hc (containers-size m) none (entries-hold m ok)) v)) q) fit
+      (holds_by (holds-container held c hc (containers-size m) none (entries-hold m ok)) v)) q)
+      (fits_by _ (fits_bits d c clear clear clear clear free few) q)
 
 -- ---- an open
 
@@ -200,7 +209,9 @@ module _ (s : Settings) where
   unfolding contents_of opened
   begun-same = record { words = λ k l. begun-word k; bits = λ x y hx hy. begun-bit x y hx }
 
-  pub started : (m : List ℕ) → Whole m → {d e : List ℕ} → d ≡ cleared m → e ≡ slot_set d 0 settings_size (settings_word s) → Fit e → e ≡ image (opened s)
-  started m whole {d} {e} v q fit =
+  pub started : ((k : ℕ) → settings_word s k < 2 ^ 64) → (m : List ℕ) → Whole m → {d e : List ℕ} → d ≡ cleared m → e ≡ slot_set d 0 settings_size (settings_word s) → e ≡ image (opened s)
+  started few m whole {d} {e} v q =
       let h : Holds d blank = holds_by (holds-cleared m whole) v in
-      image-written (opened s) e (holds_by (holds_as (holds-slot h 0 settings_size (settings_word s) (omega arith)) (contents_of (opened s)) begun-same) q) fit
+      let clear : Fit d = fits_by _ (fits-cleared m) v in
+      image-written (opened s) e (holds_by (holds_as (holds-slot h 0 settings_size (settings_word s) (omega arith)) (contents_of (opened s)) begun-same) q)
+      (fits_by _ (fits-slot d 0 settings_size (settings_word s) clear (λ k l. few k)) q)

@@ -5,17 +5,18 @@ ghost use Rattle.std.specs.Prelude.{◌≡◌, ◌<◌};
 ghost use Rattle.std.proofs.Math.Option.{none};
 ghost use Rattle.block.specs.Reading.{settings_of};
 ghost use Rattle.model.specs.Registry.{change_container, opened};
-ghost use Rattle.store.specs.Layout.{settings_size, Whole};
+ghost use Rattle.store.specs.Layout.{settings_size};
 ghost use Rattle.store.specs.Memory.{slot_set};
 ghost use Rattle.formed.specs.Words.{settings_word};
 ghost use Rattle.formed.specs.Registry.{registry_in, image, EntriesFormed};
 
 use model::ContainerSlot;
+use store::Words;
 
 // The container at a slot removed: by the rules every bit of a free slot is clear.
 // Kept: `slot.0 < 256`, and `c < 256` below it. A slot that carries its bound would be no plainer: calls over C make slots of any number,
 // and test them, and loops over a table would make one at each index.
-pub fn take_container(memory: &mut [u64], slot: ContainerSlot)
+pub fn take_container(memory: &mut Words, slot: ContainerSlot)
     requires { EntriesFormed memory.old × (slot.0 < 256) }
     ensures { memory.new ≡ image (change_container (registry_in memory.old) slot.0 none) }
 {
@@ -27,8 +28,7 @@ pub fn take_container(memory: &mut [u64], slot: ContainerSlot)
 }
 
 // The words of settings.
-fn set_settings(memory: &mut [u64], settings: block::Settings)
-    requires { Whole memory.old }
+fn set_settings(memory: &mut Words, settings: block::Settings)
     ensures { memory.new ≡ slot_set memory.old 0 settings_size (settings_word (settings_of settings)) }
 {
     memory[0] = settings.user_key;
@@ -37,9 +37,7 @@ fn set_settings(memory: &mut [u64], settings: block::Settings)
 }
 
 // An accepted open: no entry and no bit, under the settings.
-// Kept: `start` of `report` begins a report and takes no memory: the two share a word alone.
-pub fn start(memory: &mut [u64], settings: block::Settings)
-    requires { Whole memory.old }
+pub fn start(memory: &mut Words, settings: block::Settings)
     ensures { memory.new ≡ image (opened (settings_of settings)) }
 {
     access::clear(memory);

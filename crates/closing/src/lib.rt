@@ -1,7 +1,7 @@
 // How the report closes: the line of the counts, then the lines of the findings, as many at a time as find room.
 #![tactic(auto)]
 
-ghost use Rattle.std.specs.Prelude.{◌≡◌, ◌*◌, ◌≤◌, length};
+ghost use Rattle.std.specs.Prelude.{◌*◌, ◌≤◌, length};
 ghost use Rattle.steps.specs.MemoryStep.{memory_step};
 ghost use Rattle.model.specs.Calls.{ask, list_findings};
 ghost use Rattle.findings.specs.Steps.{cursor_place};

@@ -2,10 +2,10 @@
 #![tactic(auto)]
 
 ghost use Rattle.std.specs.Prelude.{◌≡◌, ◌%◌, ◌<◌};
-ghost use Rattle.store.specs.Layout.{row_count, Whole, InRows};
+ghost use Rattle.store.specs.Layout.{row_count, InRows};
 ghost use Rattle.store.specs.Memory.{with_bit, bit_set, column_set};
 
-use store::Band;
+use store::{Band, Words};
 
 // A row's word i / 64 with bit i of the row made `value`.
 fn with_bit(word: u64, i: usize, value: bool) -> u64
@@ -17,8 +17,8 @@ fn with_bit(word: u64, i: usize, value: bool) -> u64
 
 // Bit b of row r made `value`.
 #[tactic(auto, unfolding(store::specs::Memory::bit_set))]
-fn set_bit(memory: &mut [u64], r: usize, b: usize, value: bool)
-    requires { Whole memory.old × (r < row_count) × (b < 256) }
+fn set_bit(memory: &mut Words, r: usize, b: usize, value: bool)
+    requires { (r < row_count) × (b < 256) }
     ensures { memory.new ≡ bit_set memory.old r b value }
 {
     let at = store::ROWS + store::ROW_WORDS * r + b / 64;
@@ -27,8 +27,8 @@ fn set_bit(memory: &mut [u64], r: usize, b: usize, value: bool)
 
 // Bit b of each row of a band made bit i of the values, where the row is the band's row i: the matrix's column b, or container b's bit
 // in each policy's selected or allowed set.
-pub fn set_column(memory: &mut [u64], band: Band, b: usize, values: [u64; 4])
-    requires { Whole memory.old × InRows band × (b < 256) }
+pub fn set_column(memory: &mut Words, band: Band, b: usize, values: [u64; 4])
+    requires { InRows band × (b < 256) }
     ensures { memory.new ≡ column_set memory.old band b values }
 {
     for i in 0..band.count {

@@ -18,12 +18,13 @@ use Rattle.formed.specs.Placed.{container_placed}
 use Rattle.formed.proofs.Back.{image-written}
 use Rattle.formed.proofs.Reading.{entries-hold}
 use Rattle.formed.proofs.Placed.{container-placed-valid, container-placed-in, image-entries, image-says}
+use Rattle.formed.proofs.Fits.{fits_by}
 use Rattle.formed.proofs.StoredLaws.{Fit}
 use Rattle.sets.specs.declared.PolicySets.{PolicySets}
 use Rattle.sets.specs.Sets.{bits, SetsOf}
 use Rattle.container_bits.specs.ContainerBits.{bits_set, holding_set}
 use Rattle.container_bits.proofs.HoldingLaws.{holding-at}
-use Rattle.clearing.proofs.BitLaws.{mixed, BitsOf, holds-bits}
+use Rattle.clearing.proofs.BitLaws.{mixed, BitsOf, holds-bits, fits_bits}
 use Rattle.container_changes.specs.OneContainer.{refreshed}
 
 -- ---- a container's bits by the rules, from the entries as they stand
@@ -40,13 +41,13 @@ refreshed-is : (r : Registry) (c : ℕ) → refreshed r c ≡ by_rules r.bits c 
 unfolding refreshed change_container
 refreshed-is r c = ap (by_rules r.bits c) (same-slot r.model c)
 
-pub refresh-done : (m : List ℕ) → EntriesFormed m → (c : ℕ) → c < container_slots → {e row column selected allowed : List ℕ}
-    → BitsOf c (computed_bits (model_in m)) row column selected allowed → e ≡ bits_set m c row column selected allowed → Fit e → e ≡ image (refreshed (registry_in m) c)
+pub refresh-done : (m : List ℕ) → EntriesFormed m → Fit m → (c : ℕ) → c < container_slots → {e row column selected allowed : List ℕ}
+    → Fit row → BitsOf c (computed_bits (model_in m)) row column selected allowed → e ≡ bits_set m c row column selected allowed → e ≡ image (refreshed (registry_in m) c)
 unfolding registry_in
-refresh-done m ok c hc {e} g q fit =
+refresh-done m ok fit c hc {e} few g q =
     let r = registry_in m in
     image-written (by_rules r.bits c r.model) e
-    (holds_by (holds-bits r c hc (computed_bits r.model) g (entries-hold m ok)) q) fit
+    (holds_by (holds-bits r c hc (computed_bits r.model) g (entries-hold m ok)) q) (fits_by _ (fits_bits m c _ _ _ _ fit few) q)
     ∙ ap image (sym (refreshed-is r c))
 
 -- ---- a container that comes

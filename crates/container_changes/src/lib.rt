@@ -11,9 +11,10 @@ ghost use Rattle.container_changes.specs.OneContainer.{refreshed};
 
 use model::ContainerSlot;
 use sets::PolicySets;
+use store::Words;
 
 // Container c's bits set by the rules from the entries as they stand.
-fn refresh(memory: &mut [u64], c: usize)
+fn refresh(memory: &mut Words, c: usize)
     requires { EntriesFormed memory.old × (c < 256) }
     ensures { memory.new ≡ image (refreshed (registry_in memory.old) c) }
 {
@@ -30,8 +31,9 @@ fn refresh(memory: &mut [u64], c: usize)
 }
 
 // The container of an accepted block comes to a slot.
-// Kept: a pair of the slot and the block would be made for this call alone, and taken apart by it.
-pub fn put_container(memory: &mut [u64], slot: ContainerSlot, block: &[u8])
+// Kept: a pair of the slot and the block would be made for this call alone, and taken apart by it; and that the block is accepted as a
+// clause, since it is under the settings of the memory that is lent.
+pub fn put_container(memory: &mut Words, slot: ContainerSlot, block: &[u8])
     requires { EntriesFormed memory.old × (slot.0 < 256) × AcceptedAs (model_in memory.old).settings block.now (container (container_said block.now)) }
     ensures { memory.new ≡ image (change_container (registry_in memory.old) slot.0 (some (container_said block.now))) }
 {

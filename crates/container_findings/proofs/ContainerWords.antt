@@ -3,7 +3,7 @@ use mathlib.Core.Path.{◌≡◌, sym, ap, ◌∙◌}
 use mathlib.Core.Bool.{Bool, true, false, not, ◌&&◌, beq}
 use mathlib.Core.List.{List}
 use Prim.Native.Nat.{ℕ, ◌+◌, ◌*◌, ◌/◌, ◌%◌, ◌≤◌, ◌<◌}
-use borrow.Author.Tests.{not-true, not-false, eq-eqb, ne_eqb}
+use borrow.Author.Tests.{eq-eqb, ne_eqb}
 use Rattle.bitrow.specs.Bit.{bit}
 use Rattle.model.specs.Rules.{carries}
 use Rattle.model.specs.Findings.{is_system}
@@ -18,15 +18,9 @@ use Rattle.container_findings.specs.Rows.{containers_stand, column_as, with_user
 -- ---- a column, by the bit read
 
 module _ (m : List ℕ) (c a : ℕ) (h : c < 256) (l : a < 256) (wanted : Bool) {r : Bool} (e : r ≡ bit (word_at m (row_start c + a / 64)) (a % 64)) where
-  column-bit : column_as (bits_in m) a wanted c ≡ beq r wanted
+  pub column-bit : column_as (bits_in m) a wanted c ≡ beq r wanted
   unfolding column_as row_bit
   column-bit = ap (λ t. beq t wanted) (matrix-in m c a h l ∙ sym e)
-
-  pub column-yes : not (beq r wanted) ≡ false → column_as (bits_in m) a wanted c ≡ true
-  column-yes q = column-bit ∙ not-false (beq r wanted) q
-
-  pub column-no : not (beq r wanted) ≡ true → column_as (bits_in m) a wanted c ≡ false
-  column-no q = column-bit ∙ not-true (beq r wanted) q
 
 -- ---- the user word, by the word read
 

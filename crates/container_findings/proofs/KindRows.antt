@@ -1,8 +1,9 @@
--- The definition of each kind, as rows: of an empty slot, of one number.
+-- The definition of each kind, as rows: of no kind, of an empty slot, of one number.
 use mathlib.Core.Path.{◌≡◌, sym, ap, ◌∙◌, fun_ext}
+use mathlib.Core.Logic.{◌⊎◌, ⊎_elim}
 use mathlib.Core.Bool.{Bool, true, false, ◌&&◌, ◌||◌, or-false, and-false}
 use mathlib.Core.List.{List}
-use Prim.Native.Nat.{ℕ, ◌<◌}
+use Prim.Native.Nat.{ℕ, ◌≤◌, ◌<◌}
 use native.Mathlib.Omega.{arith}
 use lib.Dec.{eqb}
 use borrow.Author.Tests.{ne_eqb}
@@ -37,7 +38,7 @@ module _ (m : List ℕ) (a b : ℕ) where
   unfolding shown_at shown
   at-4 = or-false _
 
--- ---- rows that are empty by the slot
+-- ---- rows that are empty by the slot or by the kind
 
 module _ (m : List ℕ) (k a : ℕ) where
   -- no container stands at a
@@ -47,6 +48,14 @@ module _ (m : List ℕ) (k a : ℕ) where
     where
       none4 : (p q r s : Bool) → ((p && false) || ((q && false) || ((r && false) || ((s && false) || false)))) ≡ false
       none4 p q r s = rw (and-false p, and-false q, and-false r, and-false s)
+
+  -- k is no kind
+  pub no_kind : k ≡ 0 ⊎ 7 < k → nothing ≡ shown_at m k a
+  unfolding nothing shown_at shown
+  no_kind h = fun_ext (λ b. rw (other 1 (omega arith), other 2 (omega arith), other 3 (omega arith), other 4 (omega arith), other 5 (omega arith), other 6 (omega arith), other 7 (omega arith)))
+    where
+      other : (i : ℕ) → (0 < i) × (i ≤ 7) → eqb k i ≡ false
+      other i p = ne_eqb k i (λ e. ⊎_elim (λ z. omega (arith, p.0)) (λ l. omega (arith, p.1)) h)
 
 -- ---- rows of one number
 

@@ -13,14 +13,6 @@ use Rattle.sealing.specs.Sealing.{Summed, Lengthens}
 use Rattle.sealing.proofs.SealingLaws.{lengthens-then, lengthens-none, sealed-front}
 use Rattle.entry_blocks.specs.Labels.{LabelsFit}
 
--- ---- numbers of two bytes
-
-high-and-low : (n high low : ℕ) → n ≡ high * 256 + low → low < 256 → number_bytes n ≡ high ∷ low ∷ []
-high-and-low n high low e h =
-    let x : n / 256 ≡ high = omega arith in
-    let y : n % 256 ≡ low = omega arith in
-    ap₂ (λ (i j : ℕ). i ∷ j ∷ []) x y
-
 -- ---- labels
 
 abbrev labelled : List ℕ → List Label
@@ -83,41 +75,31 @@ labels-summed ws {d} {e} {at} {sum} g =
 
 -- ---- the front of a block
 
--- four bytes, put as two numbers
-four_bytes : (x y a b c k : ℕ) {d e f : List ℕ} {r s : ℕ} → x ≡ a * 256 + b → b < 256 → y ≡ c * 256 + k → k < 256
-    → Lengthens d 0 (number_bytes x) e r → Lengthens e 2 (number_bytes y) f s → Lengthens d 0 (a ∷ b ∷ c ∷ k ∷ []) f s
-four_bytes x y a b c k {d} {e} {f} {r} {s} p q u v g h =
-    subst (λ (l : List ℕ). Lengthens d 0 l f s) (ap₂ (λ (i j : List ℕ). i ++ j) (high-and-low x a b p q) (high-and-low y c k u v)) (lengthens-then g h)
-
--- and sealed behind what was put
+-- sealed behind what was put
 sealed-as : {d t e f : List ℕ} {r : ℕ} (n : ℕ) → Lengthens d 0 t e r → length t ≡ n → f ≡ sealed (take n e) → f ≡ sealed t
 sealed-as {d} {t} {e} n g q s = s ∙ ap sealed (ap (λ (k : ℕ). take k e) (sym q) ∙ sealed-front g)
 
-pub settings-block : (s : Settings) {d e f g h : List ℕ} {q r t : ℕ} → s.user_key < 256 → Lengthens d 0 (number_bytes (83 * 256 + s.user_key)) e q
-    → Lengthens e 2 (number_bytes (s.system_key * 256)) f r → Lengthens f 4 (number_bytes s.system_value) g t → h ≡ sealed (take 6 g) → h ≡ settings_block s
+pub settings-block : (s : Settings) {d e f g h : List ℕ} {q r t : ℕ} → Lengthens d 0 (83 ∷ s.user_key ∷ []) e q → Lengthens e 2 (s.system_key ∷ 0 ∷ []) f r
+    → Lengthens f 4 (number_bytes s.system_value) g t → h ≡ sealed (take 6 g) → h ≡ settings_block s
 unfolding settings_block
-settings-block s l x y z w =
-    let head = four_bytes (83 * 256 + s.user_key) (s.system_key * 256) 83 s.user_key s.system_key 0 (omega arith) l (omega arith) (omega arith) x y in
-    sealed-as 6 (lengthens-then head z) refl w
+settings-block s x y z w = sealed-as 6 (lengthens-then (lengthens-then x y) z) refl w
 
-pub container-block : (c : List Label) (n : ℕ) {d e f g h : List ℕ} {q r t : ℕ} → length c ≡ n → n < 256 → Lengthens d 0 (number_bytes (67 * 256 + n)) e q
-    → Lengthens e 2 (number_bytes 0) f r → Lengthens f 4 (label_bytes c) g t → h ≡ sealed (take (4 + 4 * n) g) → h ≡ block_of (container c)
+pub container-block : (c : List Label) (n : ℕ) {d e f g h : List ℕ} {q r t : ℕ} → length c ≡ n → Lengthens d 0 (67 ∷ n ∷ []) e q → Lengthens e 2 (0 ∷ 0 ∷ []) f r
+    → Lengthens f 4 (label_bytes c) g t → h ≡ sealed (take (4 + 4 * n) g) → h ≡ block_of (container c)
 unfolding block_of
-container-block c n k l x y z w =
-    let head = four_bytes (67 * 256 + n) 0 67 n 0 0 (omega arith) l (omega arith) (omega arith) x y in
-    sealed-as (4 + 4 * n) (lengthens-then head z) (omega (arith, length-bytes c)) w ∙ ap (λ (i : ℕ). sealed (67 ∷ i ∷ 0 ∷ 0 ∷ label_bytes c)) (sym k)
+container-block c n k x y z w =
+    sealed-as (4 + 4 * n) (lengthens-then (lengthens-then x y) z) (omega (arith, length-bytes c)) w ∙ ap (λ (i : ℕ). sealed (67 ∷ i ∷ 0 ∷ 0 ∷ label_bytes c)) (sym k)
 
 -- n is the number of its direction
-pub policy-block : (p : Policy) (n s a : ℕ) {d e f g h i : List ℕ} {q r t u : ℕ} → n ≡ direction_number p.direction → n < 256
-    → length p.select ≡ s → length p.allow ≡ a → a < 256 → Lengthens d 0 (number_bytes (80 * 256 + n)) e q → Lengthens e 2 (number_bytes (s * 256 + a)) f r
+pub policy-block : (p : Policy) (n s a : ℕ) {d e f g h i : List ℕ} {q r t u : ℕ} → n ≡ direction_number p.direction → length p.select ≡ s → length p.allow ≡ a
+    → Lengthens d 0 (80 ∷ n ∷ []) e q → Lengthens e 2 (s ∷ a ∷ []) f r
     → Lengthens f 4 (label_bytes p.select) g t → Lengthens g (4 + 4 * s) (label_bytes p.allow) h u → i ≡ sealed (take (4 + 4 * s + 4 * a) h) → i ≡ block_of (policy p)
 unfolding block_of
-policy-block p n s a {g = g} {h} {u = u} way small selects allows few x y z v w =
+policy-block p n s a {g = g} {h} {u = u} way selects allows x y z v w =
     let selected = label_bytes p.select in
     let allowed = label_bytes p.allow in
-    let head = four_bytes (80 * 256 + n) (s * 256 + a) 80 n s a (omega arith) small (omega arith) few x y in
     let behind : 4 + 4 * s ≡ 0 + length (80 ∷ n ∷ s ∷ a ∷ selected) = omega (arith, length-bytes p.select) in
-    let front = lengthens-then (lengthens-then head z) (subst (λ (k : ℕ). Lengthens g k allowed h u) behind v) in
+    let front = lengthens-then (lengthens-then (lengthens-then x y) z) (subst (λ (k : ℕ). Lengthens g k allowed h u) behind v) in
     sealed-as (4 + 4 * s + 4 * a) front (omega (arith, length-append selected allowed, length-bytes p.select, length-bytes p.allow)) w
     ∙ ap (λ (k : ℕ). sealed (80 ∷ k ∷ s ∷ a ∷ (selected ++ allowed))) way
     ∙ ap₂ (λ (j k : ℕ). sealed (80 ∷ direction_number p.direction ∷ j ∷ k ∷ (selected ++ allowed))) (sym selects) (sym allows)

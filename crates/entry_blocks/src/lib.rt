@@ -1,7 +1,7 @@
 // The blocks of settings and of entries, from the words of a memory. Each byte of a block is set, whatever it held.
 #![tactic(auto)]
 
-ghost use Rattle.std.specs.Prelude.{◌≡◌, ◌+◌, ◌*◌, ◌<◌, List, ℕ, length, map};
+ghost use Rattle.std.specs.Prelude.{◌≡◌, ◌+◌, ◌*◌, ◌<◌, ◌≤◌, [], ◌∷◌, List, ℕ, length, map};
 ghost use Rattle.std.proofs.Math.Option.{some};
 ghost use Rattle.block.specs.Written.{label_bytes, block_of, settings_block};
 ghost use Rattle.model.specs.Table.{at as slot_at};
@@ -14,9 +14,11 @@ ghost use Rattle.entry_blocks.specs.Sizes.{container-size, policy-size};
 
 use entries::Slot;
 use model::{ContainerSlot, PolicySlot};
+use store::Words;
 
 // Labels, each a word, put behind the first `at` bytes. Answers the sum with these.
-// Kept: the block with a position and the sum so far, which are what a block that is being made is known by.
+// Kept: the block with a position and the sum so far: a struct of them would hold a `&mut` that is lent on for each number, as at
+// `sealing::put_number`.
 fn put_labels(labels: &[u64], block: &mut [u8], at: usize, sum: u64) -> u64
     requires { LabelsFit labels.now at × Summed block.old at sum }
     ensures { Lengthens block.old at (label_bytes (map label_in labels.now)) block.new result }
@@ -31,13 +33,22 @@ fn put_labels(labels: &[u64], block: &mut [u8], at: usize, sum: u64) -> u64
     total
 }
 
-// Kept: a block as a slice of 512 bytes: of a part of a buffer an array would be an Option, at each block.
-pub fn write_settings(memory: &[u64], block: &mut [u8])
+// Two bytes put behind the first `at` bytes. Answers the sum with these.
+// Kept: as at `put_labels`.
+fn put_two(block: &mut [u8], at: usize, high: u64, low: u64, sum: u64) -> u64
+    requires { Summed block.old at sum × (at + 2 ≤ 510) × (high < 256) × (low < 256) }
+    ensures { Lengthens block.old at (high ∷ low ∷ []) block.new result }
+{
+    sealing::put_number(block, at, high * 256 + low, sum)
+}
+
+// Kept: a block as a slice of 512 bytes: an array would be no plainer, since of a part of a buffer it is an Option, at each block.
+pub fn write_settings(memory: &Words, block: &mut [u8])
     requires { EntriesFormed memory.now × (length block.old ≡ 512) }
     ensures { block.new ≡ settings_block (settings_in memory.now) }
 {
-    let user = sealing::put_number(block, 0, 83 * 256 + memory[0], 0);
-    let system = sealing::put_number(block, 2, memory[1] * 256, user);
+    let user = put_two(block, 0, 83, memory[0], 0);
+    let system = put_two(block, 2, memory[1], 0, user);
     let value = sealing::put_number(block, 4, memory[2], system);
     sealing::seal(block, 6, value);
 }
@@ -45,7 +56,7 @@ pub fn write_settings(memory: &[u64], block: &mut [u8])
 // A slot whose entry can be written as a block.
 pub trait Filed: Slot {
     // The block of the entry that stands at the slot.
-    fn write_entry(self, memory: &[u64], block: &mut [u8])
+    fn write_entry(self, memory: &Words, block: &mut [u8])
         requires { EntriesFormed memory.now × (Self.index self < Self.SLOTS)
             × (0 < word_at memory.now (Self.START + Self.WORDS * Self.index self))
             × (length block.old ≡ 512) }
@@ -59,12 +70,12 @@ pub trait Filed: Slot {
 impl Filed for ContainerSlot {
     ghost block_length = { λ m ok. container-size (model_in m) ok.entries };
 
-    fn write_entry(self, memory: &[u64], block: &mut [u8]) {
+    fn write_entry(self, memory: &Words, block: &mut [u8]) {
         let at = store::CONTAINERS + store::CONTAINER_WORDS * self.0;
         let labels = entries::labels_of(memory, at);
         let count = memory[at] - 1;
-        let kind = sealing::put_number(block, 0, 67 * 256 + count, 0);
-        let unused = sealing::put_number(block, 2, 0, kind);
+        let kind = put_two(block, 0, 67, count, 0);
+        let unused = put_two(block, 2, 0, 0, kind);
         let sum = put_labels(labels, block, 4, unused);
         sealing::seal(block, 4 + 4 * labels.len(), sum);
     }
@@ -73,15 +84,15 @@ impl Filed for ContainerSlot {
 impl Filed for PolicySlot {
     ghost block_length = { λ m ok. policy-size (model_in m) ok.entries };
 
-    fn write_entry(self, memory: &[u64], block: &mut [u8]) {
+    fn write_entry(self, memory: &Words, block: &mut [u8]) {
         let at = store::POLICIES + store::POLICY_WORDS * self.0;
         let select = entries::labels_of(memory, at + store::SELECT);
         let allow = entries::labels_of(memory, at + store::ALLOW);
         let selects = memory[at + store::SELECT] - 1;
         let allows = memory[at + store::ALLOW] - 1;
         let behind = 4 + 4 * select.len();
-        let direction = sealing::put_number(block, 0, 80 * 256 + memory[at], 0);
-        let counts = sealing::put_number(block, 2, selects * 256 + allows, direction);
+        let direction = put_two(block, 0, 80, memory[at], 0);
+        let counts = put_two(block, 2, selects, allows, direction);
         let selected = put_labels(select, block, 4, counts);
         let allowed = put_labels(allow, block, behind, selected);
         sealing::seal(block, behind + 4 * allow.len(), allowed);

@@ -17,7 +17,7 @@ pub fn carries(memory: &[u64], at: usize, word: u64) -> bool
 }
 
 // The word of the label under this key of the part whose header is at `at`, 0 where it has none.
-// Kept: as above.
+// Kept: as above; and 0 for none, as the definition has it: no label's word is 0.
 pub fn word_under(memory: &[u64], at: usize, key: u64) -> u64
     requires { PartWithin memory.now at }
     ensures { result ≡ word_under key (part_in memory.now at) }

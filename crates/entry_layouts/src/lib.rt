@@ -13,7 +13,8 @@ use faults::Run;
 use layouts::Body;
 
 // The rest of the unused bytes is looked at up to `end` only: behind it all are zero.
-// Kept: two functions for two layouts; the tests that both need are one, `layout_test`.
+// Kept: two functions for two layouts: one would ask which it is at each field, since a policy has a direction and two runs of labels, a
+// container one; the tests that both need are one, `layout_test`.
 pub fn container_test(block: &[u8; 512], end: usize) -> Result<(), Refusal>
     requires { UsedEnd block.now end }
     ensures { result ≡ first_refusal (layout_checks block.now (container_layout block.now)) }

@@ -3,15 +3,14 @@
 
 ghost use Rattle.std.specs.Prelude.{◌≡◌, ◌<◌, Bool, List, ℕ};
 ghost use Rattle.block.specs.Written.{valid_settings};
-ghost use Rattle.store.specs.Layout.{Whole};
 ghost use Rattle.formed.specs.Words.{settings_in};
 ghost use Rattle.formed.specs.Tests.{between, container_ok, policy_ok};
 
 use entries::Slot;
 use model::{ContainerSlot, PolicySlot};
+use store::Words;
 
-pub fn settings_ok(memory: &[u64]) -> bool
-    requires { Whole memory.now }
+pub fn settings_ok(memory: &Words) -> bool
     ensures { result ≡ valid_settings (settings_in memory.now) }
 {
     let user = block_bytes::within(1, 64, memory[0]);
@@ -29,15 +28,15 @@ pub trait Tested: Slot {
     ghost ok: { List ℕ → ℕ → Bool };
 
     // Whether the words of the slot are zero, or those of an entry.
-    fn ok(self, memory: &[u64]) -> bool
-        requires { Whole memory.now × (Self.index self < Self.SLOTS) }
+    fn ok(self, memory: &Words) -> bool
+        requires { Self.index self < Self.SLOTS }
         ensures { result ≡ ok memory.now (Self.index self) };
 }
 
 impl Tested for ContainerSlot {
     ghost ok = { container_ok };
 
-    fn ok(self, memory: &[u64]) -> bool {
+    fn ok(self, memory: &Words) -> bool {
         let at = store::CONTAINERS + store::CONTAINER_WORDS * self.0;
         let slot = &memory[at..at + store::CONTAINER_WORDS];
         if slot[0] == 0 {
@@ -50,7 +49,7 @@ impl Tested for ContainerSlot {
 impl Tested for PolicySlot {
     ghost ok = { policy_ok };
 
-    fn ok(self, memory: &[u64]) -> bool {
+    fn ok(self, memory: &Words) -> bool {
         let at = store::POLICIES + store::POLICY_WORDS * self.0;
         let direction = memory[at];
         if direction == 0 {
@@ -66,14 +65,12 @@ impl Tested for PolicySlot {
     }
 }
 
-pub fn slots_ok<S: Tested>(memory: &[u64]) -> bool
-    requires { Whole memory.now }
+pub fn slots_ok<S: Tested>(memory: &Words) -> bool
     ensures { result ≡ between (S.ok memory.now) 0 S.SLOTS }
 {
-    for i in 0..S::SLOTS {
-        if !S::at(i).ok(memory) {
-            return false;
-        }
-    }
-    true
+    (0..S::SLOTS).all(
+        |i|
+            requires { i < S.SLOTS }
+        { S::at(i).ok(memory) },
+    )
 }

@@ -1,7 +1,8 @@
 // The searches for the first position at fault: a fault is its position in the block.
 #![tactic(auto)]
 
-ghost use Rattle.std.specs.Prelude.{◌≡◌, ℕ, ◌+◌, ◌*◌, ◌≤◌, ◌<◌, length, Option, ⊤};
+ghost use Rattle.std.specs.Prelude.{◌≡◌, ℕ, ◌+◌, ◌*◌, ◌≤◌, ◌<◌, length, Option, Result, ⊤};
+ghost use Rattle.std.specs.Result.{result_and};
 ghost use Rattle.block.specs.Fault.{unless, first_between};
 ghost use Rattle.block.specs.Refusal.{refuse};
 ghost use Rattle.block.specs.Reader.{label_fault, range_fault, rise_fault, order_fault, zero_fault};
@@ -24,6 +25,8 @@ pub fn unless(test: bool, p: usize) -> Option<usize>
 }
 
 // The first fault that the search finds at the numbers from `from` on and before `to`.
+// Kept: `find_map` tells of the calls on the run of its iterator, and that this is the first fault would be proved over that run, where
+// the loop has one equation a turn.
 fn first_between<F: Fn(usize) -> Option<usize>>(from: usize, to: usize, search: F) -> Option<usize>
     requires { (k : ℕ) → from ≤ k → k < to → F.pre search k }
     ensures { (f : ℕ → Option ℕ) → ((k : ℕ) (r : Option ℕ) → from ≤ k → k < to → F.post search k r → r ≡ f k) → result ≡ first_between f from to }
@@ -52,6 +55,7 @@ fn label_fault(block: &[u8], p: usize) -> Option<usize>
 
 // The first key or value out of range.
 // Kept: this and `order_fault` are two rules of the format; the search that they share is `first_between`.
+#[tactic(auto, unfolding(block::specs::Reader::range_fault))]
 pub fn range_fault(block: &[u8], run: Run) -> Option<usize>
     requires { run.start + 4 * run.count ≤ length block.now }
     ensures { result ≡ range_fault block.now run.start run.count }
@@ -72,6 +76,7 @@ fn rise_fault(block: &[u8], p: usize) -> Option<usize>
 
 // The first key that does not rise.
 // Kept: as at `range_fault`.
+#[tactic(auto, unfolding(block::specs::Reader::order_fault))]
 pub fn order_fault(block: &[u8], run: Run) -> Option<usize>
     requires { run.start + 4 * run.count ≤ length block.now }
     ensures { result ≡ order_fault block.now run.start run.count }
@@ -80,6 +85,7 @@ pub fn order_fault(block: &[u8], run: Run) -> Option<usize>
 }
 
 // The first byte that is not zero, looked for only where there is one.
+#[tactic(auto, unfolding(block::specs::Reader::zero_fault))]
 pub fn zero_fault(block: &[u8], span: Span) -> Option<usize>
     requires { span.to ≤ length block.now }
     ensures { result ≡ zero_fault block.now span.from span.to }
@@ -90,9 +96,11 @@ pub fn zero_fault(block: &[u8], span: Span) -> Option<usize>
     first_between(span.from, span.to, |i| unless(block[i] == 0, i))
 }
 
-// The refusal for this reason, if there is a fault.
+// The refusal for this reason, if there is a fault. What comes after it is handed over by `?`, or by std's `and`, as the second clause
+// says.
 pub fn refuse(reason: Reason, fault: Option<usize>) -> Result<(), Refusal>
-    ensures { result ≡ refuse reason fault (Ok tt) }
+    ensures alone { result ≡ refuse reason fault (Ok tt) }
+    ensures before_others { (rest : Result ⊤ Refusal) → result_and result rest ≡ refuse reason fault rest }
 {
     match fault {
         None => Ok(()),

@@ -12,7 +12,7 @@ use Rattle.block.specs.Written.{block_of, settings_block}
 use Rattle.block.proofs.Written.{settings-length}
 use Rattle.buffer.specs.Buffer.{Puts}
 use Rattle.buffer.proofs.BufferLaws.{puts-size, puts-as, puts_then, puts-lent}
-use Rattle.model.specs.Table.{Table, at}
+use Rattle.model.specs.Table.{Table, at, standing}
 use Rattle.model.specs.Model.{Model, container_slots, policy_slots}
 use Rattle.model.specs.Findings.{containers_of, policies_of}
 use Rattle.model.specs.File.{standing_entries, file_entries, file_of}
@@ -22,7 +22,7 @@ use Rattle.store.specs.Layout.{word_at}
 use Rattle.store.proofs.Image.{length-tab, get_or-tab}
 use Rattle.formed.specs.Words.{settings_in}
 use Rattle.entries.specs.Tables.{slot_in, Tabled}
-use Rattle.formed.specs.Registry.{model_in, ValidEntries}
+use Rattle.formed.specs.Registry.{model_in, ValidEntries, EntriesFormed}
 use Rattle.entry_blocks.specs.Sizes.{container-size, policy-size}
 use Rattle.files.specs.Tables.{table_blocks, container_block, policy_block}
 use Rattle.files.proofs.TableLaws.{blocks-length, FreeSlot, TakenSlot}
@@ -71,6 +71,14 @@ module _ (m : Model) (valid : ValidEntries m) where
       let cs = m.containers in
       let ps = m.policies in
       omega (arith, entries-standing cs, entries_fit cs, valid.containers, entries-standing ps, entries_fit ps, valid.policies)
+
+-- of a memory
+module _ (m : List ℕ) (ok : EntriesFormed m) where
+  pub file_blocks : length (file_of (model_in m)) ≡ 512 * (1 + (length (standing (model_in m).containers) + length (standing (model_in m).policies)))
+  file_blocks = file-size (model_in m) ok.entries
+
+  pub entries_few : length (standing (model_in m).containers) + length (standing (model_in m).policies) ≤ 384
+  entries_few = entries-at-most (model_in m) ok.entries
 
 -- ---- the slots of a table of the memory
 

@@ -9,10 +9,12 @@ ghost use Rattle.files.specs.Tables.{table_blocks, block_by};
 
 use entry_blocks::Filed;
 use model::{ContainerSlot, PolicySlot};
+use store::Words;
 
 // The blocks of the standing entries of a table, put from byte `start` on. Answers where they end.
-// Kept: the buffer with a position, which the clause of the whole file speaks of.
-fn put_table<S: Filed>(memory: &[u64], bytes: &mut [u8], start: usize) -> usize
+// Kept: the buffer with a position: the rest of it as a slice would be no plainer, since each caller would carry its clause back to the
+// whole buffer.
+fn put_table<S: Filed>(memory: &Words, bytes: &mut [u8], start: usize) -> usize
     requires { EntriesFormed memory.now × (start + length (table_blocks (block_by S.either) (S.table memory.now)) ≤ length bytes.old) }
     ensures { Puts bytes.old start (table_blocks (block_by S.either) (S.table memory.now)) bytes.new result }
 {
@@ -28,18 +30,19 @@ fn put_table<S: Filed>(memory: &[u64], bytes: &mut [u8], start: usize) -> usize
 }
 
 // How many bytes the file has.
-pub fn file_length(memory: &[u64]) -> usize
+#[tactic(auto, using(crate::proofs::FileLaws::entries_few, crate::proofs::FileLaws::file_blocks))]
+pub fn file_length(memory: &Words) -> usize
     requires { EntriesFormed memory.now }
     ensures { result ≡ length (file_of (model_in memory.now)) }
 {
     let entries = counts::count_standing::<ContainerSlot>(memory)
         + counts::count_standing::<PolicySlot>(memory);
-    // Kept: no `From` makes a `usize` of a `u64`.
+    // Kept: the `as`: no `From` makes a `usize` of a `u64`, and a `TryFrom` would add a refusal that cannot come.
     512 * (1 + entries as usize)
 }
 
 // The file, put over the first bytes. Answers how many it has.
-pub fn put_file(memory: &[u64], bytes: &mut [u8]) -> usize
+pub fn put_file(memory: &Words, bytes: &mut [u8]) -> usize
     requires { EntriesFormed memory.now × (length (file_of (model_in memory.now)) ≤ length bytes.old) }
     ensures { Puts bytes.old 0 (file_of (model_in memory.now)) bytes.new result }
 {

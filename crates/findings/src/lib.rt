@@ -11,9 +11,10 @@ ghost use Rattle.findings.specs.RowSteps.{RowSteps};
 
 use finding_rows::Standing;
 use model::{Finding, Kind};
+use store::Words;
 
 // A place in the list of findings: any three numbers.
-// Kept: `kind: u16`; a place may stand at any number, also where there is no kind.
+// Kept: `kind: u16`: the C interface: a cursor is C's, and may stand at any number, also where there is no kind.
 #[derive(Clone, Copy)]
 pub struct Cursor {
     pub kind: u16,
@@ -37,7 +38,7 @@ struct Row {
 }
 
 // The rows from a place on, kind after kind: that of the place itself, if it has one, from the number `from` on.
-// Kept: `kind: u16`; the rows may begin at any number, also where there is no kind.
+// Kept: `kind: u16`: the rows begin where a cursor stands, which is C's: at any number, also where there is no kind.
 #[derive(Clone, Copy)]
 struct Rows {
     kind: u16,
@@ -52,16 +53,15 @@ impl Iterator for Rows {
 
     ghost remaining = { λ s. at_most ((8 - s.kind) * 257 + (256 - s.slot)) };
 
-    // Kept: the name is the iterator's.
     fn next(&mut self) -> Option<Row> {
-        let row = match Kind::numbered(self.kind) {
+        let row = match Kind::numbered(usize::from(self.kind)) {
             Some(kind) if self.slot < 256 => Row {
                 kind,
                 slot: self.slot,
                 from: self.from,
             },
             _ => Row {
-                kind: Kind::numbered(self.kind.saturating_add(1))?,
+                kind: Kind::numbered(usize::from(self.kind) + 1)?,
                 slot: 0,
                 from: 0,
             },
@@ -90,7 +90,7 @@ fn cursor_at(code: u64) -> Cursor
 
 impl Cursor {
     // Puts the findings after the cursor's three numbers, as many as the list holds; answers how many.
-    fn put_all(self, memory: &[u64], list: &mut [u64]) -> usize
+    fn put_all(self, memory: &Words, list: &mut [u64]) -> usize
         requires { well_formed memory.now ≡ true }
         ensures { Puts list.old 0 (map finding_code (walk (next_after (model_in memory.now) (bits_in memory.now)) (length list.old) (cursor_place self))) list.new result }
     {
@@ -113,7 +113,7 @@ impl Cursor {
     }
 
     // The findings after the cursor's three numbers, whatever they are, as many as the list holds, each as one number.
-    pub fn list(self, memory: &[u64], list: &mut [u64]) -> Put
+    pub fn list(self, memory: &Words, list: &mut [u64]) -> Put
         requires { well_formed memory.now ≡ true }
         ensures puts { Puts list.old 0 (map finding_code (walk (next_after (model_in memory.now) (bits_in memory.now)) (length list.old) (cursor_place self))) list.new result.count }
         ensures cursor_value { cursor_place result.cursor ≡ moved (cursor_place self) (walk (next_after (model_in memory.now) (bits_in memory.now)) (length list.old) (cursor_place self)) }
@@ -132,8 +132,7 @@ impl Cursor {
     }
 
     // The first finding after the cursor's three numbers, and the cursor moved to it: a listing of one.
-    // Kept: the name that the walk's users know.
-    pub fn next(self, memory: &[u64]) -> Option<(Finding, Cursor)>
+    pub fn next(self, memory: &Words) -> Option<(Finding, Cursor)>
         requires { well_formed memory.now ≡ true }
         ensures { result ≡ next_step (next_after (model_in memory.now) (bits_in memory.now) (cursor_place self)) }
     {

@@ -10,7 +10,9 @@ pub mod Reading
 pub mod Placed
 pub mod Apart
 pub mod Runs
+pub mod Listed
 pub mod Standing
 pub mod Rows
 pub mod EntryTests
 pub mod TestsFormed
+pub mod Fits

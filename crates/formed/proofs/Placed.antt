@@ -135,6 +135,10 @@ module _ (r : Registry) (v : ValidEntries r.model) {e : List ℕ} (q : e ≡ ima
   pub image-says : InTables r → registry_in e ≡ r
   image-says b = registry-back r v b e image-held
 
+-- words that fit 64 bits are the image of the registry that they hold
+image-of-held : {a : List ℕ} (r : Registry) → Holds a (contents_of r) → {e : List ℕ} → e ≡ a → Fit e → e ≡ image r
+image-of-held r h q fit = image-written r _ (holds_by h q) fit
+
 module _ (m : List ℕ) (ok : EntriesFormed m) where
   entries-in : ValidEntries (registry_in m).model
   unfolding registry_in
@@ -142,7 +146,7 @@ module _ (m : List ℕ) (ok : EntriesFormed m) where
 
   module _ (c : ℕ) (x : Option Container) where
     pub container-image : c < container_slots → {e : List ℕ} → e ≡ slot_set m (container_start c) container_words (container_word x) → Fit e → e ≡ image (container_placed (registry_in m) c x)
-    container-image hc {e} q fit = image-written (container_placed (registry_in m) c x) e (holds_by (holds-container (registry_in m) c hc entries-in.containers x (entries-hold m ok)) q) fit
+    container-image hc = image-of-held _ (holds-container (registry_in m) c hc entries-in.containers x (entries-hold m ok))
 
     pub container-placed-valid : valid_container (model_in m).settings x ≡ true → ValidEntries (container_placed (registry_in m) c x).model
     unfolding container_placed registry_in
@@ -156,7 +160,7 @@ module _ (m : List ℕ) (ok : EntriesFormed m) where
 
   module _ (q : ℕ) (x : Option Policy) where
     pub policy-image : q < policy_slots → {e : List ℕ} → e ≡ slot_set m (policy_start q) policy_words (policy_word x) → Fit e → e ≡ image (policy_placed (registry_in m) q x)
-    policy-image hq {e} f fit = image-written (policy_placed (registry_in m) q x) e (holds_by (holds-policy (registry_in m) q hq entries-in.policies x (entries-hold m ok)) f) fit
+    policy-image hq = image-of-held _ (holds-policy (registry_in m) q hq entries-in.policies x (entries-hold m ok))
 
     pub policy-placed-valid : valid_policy (model_in m).settings x ≡ true → ValidEntries (policy_placed (registry_in m) q x).model
     unfolding policy_placed registry_in

@@ -6,7 +6,7 @@ use model::Tally;
 use samples::Shape;
 use std::io;
 
-// What a case does.
+// What a case does. Each stands below with its number, which its lines of the output begin with.
 #[derive(Clone, Copy)]
 enum Act {
     Open(Shape),
@@ -30,142 +30,170 @@ enum Act {
 }
 
 // Settings: each refusal that their blocks meet, and what stands at the limits.
-// Kept: the numbers are the document's, which each line of the output begins with; a list of acts would be no plainer, since a reader
-// counts to find the case of a line.
-fn opening_case(case: u64) -> Act {
-    match case {
-        1 => Act::OpenOtherSize,
-        2 => Act::Admit(samples::container(1, 1)),
-        3 => Act::OpenShort,
-        4 => Act::Open(samples::spoiled(samples::settings(1, 2))),
-        5 => Act::Open(samples::container(1, 1)),
-        6 => Act::Open(samples::settings(0, 2)),
-        7 => Act::Open(samples::settings(64, 2)),
-        8 => Act::Open(samples::settings(65, 2)),
-        9 => Act::Open(samples::settings(1, 64)),
-        10 => Act::Open(samples::settings(1, 65)),
-        11 => Act::Open(samples::settings(1, 0)),
-        12 => Act::Open(samples::with_byte(samples::settings(1, 0), 5, 0)),
-        13 => Act::Open(samples::with_byte(samples::settings(1, 0), 3, 1)),
-        14 => Act::Open(samples::with_byte(samples::settings(1, 2), 5, 0)),
-        15 => Act::Open(samples::with_byte(samples::settings(1, 0), 509, 1)),
-        _ => Act::Open(samples::settings(1, 2)),
-    }
+fn opening_cases() -> [(u64, Act); 16] {
+    [
+        (1, Act::OpenOtherSize),
+        (2, Act::Admit(samples::container(1, 1))),
+        (3, Act::OpenShort),
+        (4, Act::Open(samples::spoiled(samples::settings(1, 2)))),
+        (5, Act::Open(samples::container(1, 1))),
+        (6, Act::Open(samples::settings(0, 2))),
+        (7, Act::Open(samples::settings(64, 2))),
+        (8, Act::Open(samples::settings(65, 2))),
+        (9, Act::Open(samples::settings(1, 64))),
+        (10, Act::Open(samples::settings(1, 65))),
+        (11, Act::Open(samples::settings(1, 0))),
+        (
+            12,
+            Act::Open(samples::with_byte(samples::settings(1, 0), 5, 0)),
+        ),
+        (
+            13,
+            Act::Open(samples::with_byte(samples::settings(1, 0), 3, 1)),
+        ),
+        (
+            14,
+            Act::Open(samples::with_byte(samples::settings(1, 2), 5, 0)),
+        ),
+        (
+            15,
+            Act::Open(samples::with_byte(samples::settings(1, 0), 509, 1)),
+        ),
+        (16, Act::Open(samples::settings(1, 2))),
+    ]
 }
 
 // Containers and then policies: each refusal that their blocks meet, and what stands at the limits.
-// Kept: as in `opening_case`.
-fn entry_case(case: u64) -> Shape {
-    match case {
-        17 => samples::settings(1, 2),
-        18 => samples::container(8, 1),
-        19 => samples::container(9, 1),
-        20 => samples::container(1, 64),
-        21 => samples::container(1, 65),
-        22 => samples::container(0, 0),
-        23 => samples::container(1, 0),
-        24 => samples::with_byte(samples::container(1, 1), 7, 0),
-        25 => samples::with_byte(samples::container(2, 3), 9, 3),
-        26 => samples::with_byte(samples::container(2, 3), 12, 1),
-        27 => samples::with_byte(samples::container(2, 3), 2, 1),
-        28 => samples::with_byte(samples::container(2, 3), 509, 1),
-        29 => samples::spoiled(samples::container(2, 3)),
-        30 => samples::policy(1, 4, 0, 1),
-        31 => samples::policy(2, 5, 0, 1),
-        32 => samples::policy(2, 0, 5, 1),
-        33 => samples::policy(3, 1, 0, 1),
-        34 => samples::policy(0, 1, 0, 1),
-        35 => samples::policy(2, 1, 0, 64),
-        36 => samples::policy(2, 1, 0, 65),
-        37 => samples::with_byte(samples::policy(2, 2, 0, 3), 9, 3),
-        38 => samples::with_byte(samples::policy(2, 2, 0, 3), 12, 1),
-        _ => samples::policy(2, 4, 4, 1),
-    }
+fn entry_cases() -> [(u64, Act); 23] {
+    [
+        (17, Act::Admit(samples::settings(1, 2))),
+        (18, Act::Admit(samples::container(8, 1))),
+        (19, Act::Admit(samples::container(9, 1))),
+        (20, Act::Admit(samples::container(1, 64))),
+        (21, Act::Admit(samples::container(1, 65))),
+        (22, Act::Admit(samples::container(0, 0))),
+        (23, Act::Admit(samples::container(1, 0))),
+        (
+            24,
+            Act::Admit(samples::with_byte(samples::container(1, 1), 7, 0)),
+        ),
+        (
+            25,
+            Act::Admit(samples::with_byte(samples::container(2, 3), 9, 3)),
+        ),
+        (
+            26,
+            Act::Admit(samples::with_byte(samples::container(2, 3), 12, 1)),
+        ),
+        (
+            27,
+            Act::Admit(samples::with_byte(samples::container(2, 3), 2, 1)),
+        ),
+        (
+            28,
+            Act::Admit(samples::with_byte(samples::container(2, 3), 509, 1)),
+        ),
+        (29, Act::Admit(samples::spoiled(samples::container(2, 3)))),
+        (30, Act::Admit(samples::policy(1, 4, 0, 1))),
+        (31, Act::Admit(samples::policy(2, 5, 0, 1))),
+        (32, Act::Admit(samples::policy(2, 0, 5, 1))),
+        (33, Act::Admit(samples::policy(3, 1, 0, 1))),
+        (34, Act::Admit(samples::policy(0, 1, 0, 1))),
+        (35, Act::Admit(samples::policy(2, 1, 0, 64))),
+        (36, Act::Admit(samples::policy(2, 1, 0, 65))),
+        (
+            37,
+            Act::Admit(samples::with_byte(samples::policy(2, 2, 0, 3), 9, 3)),
+        ),
+        (
+            38,
+            Act::Admit(samples::with_byte(samples::policy(2, 2, 0, 3), 12, 1)),
+        ),
+        (39, Act::Admit(samples::policy(2, 4, 4, 1))),
+    ]
 }
 
 // Slots asked about: free ones, and ones beyond their table.
-// Kept: as in `opening_case`.
-fn asking_case(case: u64) -> Act {
-    match case {
-        40 => Act::Reaches(0, 255),
-        41 => Act::Reaches(255, 256),
-        42 => Act::Reaches(256, 255),
-        43 => Act::Reaches(0, 1),
-        44 => Act::Reaches(1, 0),
-        45 => Act::CarriesUser(255, 1),
-        46 => Act::CarriesUser(256, 1),
-        47 => Act::CarriesUser(0, 1),
-        48 => Act::CarriesUser(0, 2),
-        _ => Act::CarriesUser(0, 65536),
-    }
+fn asking_cases() -> [(u64, Act); 10] {
+    [
+        (40, Act::Reaches(0, 255)),
+        (41, Act::Reaches(255, 256)),
+        (42, Act::Reaches(256, 255)),
+        (43, Act::Reaches(0, 1)),
+        (44, Act::Reaches(1, 0)),
+        (45, Act::CarriesUser(255, 1)),
+        (46, Act::CarriesUser(256, 1)),
+        (47, Act::CarriesUser(0, 1)),
+        (48, Act::CarriesUser(0, 2)),
+        (49, Act::CarriesUser(0, 65536)),
+    ]
 }
 
 // Slots freed: free ones, ones beyond their table, and a freed one used again.
-// Kept: as in `opening_case`.
-fn freeing_case(case: u64) -> Act {
-    match case {
-        51 => Act::RemoveContainer(255),
-        52 => Act::RemoveContainer(256),
-        53 => Act::RemovePolicy(127),
-        54 => Act::RemovePolicy(128),
-        55 | 56 => Act::RemoveContainer(1),
-        57 | 58 => Act::RemovePolicy(2),
-        59 => Act::Admit(samples::container(1, 1)),
-        61 => Act::Rebuild,
-        62 => Act::Audit,
-        _ => Act::Counts,
-    }
+fn freeing_cases() -> [(u64, Act); 14] {
+    [
+        (50, Act::Counts),
+        (51, Act::RemoveContainer(255)),
+        (52, Act::RemoveContainer(256)),
+        (53, Act::RemovePolicy(127)),
+        (54, Act::RemovePolicy(128)),
+        (55, Act::RemoveContainer(1)),
+        (56, Act::RemoveContainer(1)),
+        (57, Act::RemovePolicy(2)),
+        (58, Act::RemovePolicy(2)),
+        (59, Act::Admit(samples::container(1, 1))),
+        (60, Act::Counts),
+        (61, Act::Rebuild),
+        (62, Act::Audit),
+        (63, Act::Counts),
+    ]
 }
 
 // Full tables: the 257th container and the 129th policy, and freed slots used again.
-// Kept: as in `opening_case`.
-fn filling_case(case: u64) -> Act {
-    match case {
-        64 => Act::Open(samples::settings(1, 2)),
-        65 => Act::Repeat(samples::container(2, 1), 255),
-        66 | 67 => Act::Admit(samples::container(2, 1)),
-        68 => Act::RemoveContainer(100),
-        69 | 70 => Act::Admit(samples::container(1, 1)),
-        71 => Act::Repeat(samples::policy(1, 0, 1, 2), 127),
-        72 | 73 | 76 => Act::Admit(samples::policy(2, 1, 1, 1)),
-        74 => Act::RemovePolicy(127),
-        77 => Act::Audit,
-        _ => Act::Counts,
-    }
+fn filling_cases() -> [(u64, Act); 15] {
+    [
+        (64, Act::Open(samples::settings(1, 2))),
+        (65, Act::Repeat(samples::container(2, 1), 255)),
+        (66, Act::Admit(samples::container(2, 1))),
+        (67, Act::Admit(samples::container(2, 1))),
+        (68, Act::RemoveContainer(100)),
+        (69, Act::Admit(samples::container(1, 1))),
+        (70, Act::Admit(samples::container(1, 1))),
+        (71, Act::Repeat(samples::policy(1, 0, 1, 2), 127)),
+        (72, Act::Admit(samples::policy(2, 1, 1, 1))),
+        (73, Act::Admit(samples::policy(2, 1, 1, 1))),
+        (74, Act::RemovePolicy(127)),
+        (75, Act::Counts),
+        (76, Act::Admit(samples::policy(2, 1, 1, 1))),
+        (77, Act::Audit),
+        (78, Act::Counts),
+    ]
 }
 
 // Files: of full tables, of no entry and of one, into one byte too few, as many as they have, and more. Then batches of a block.
-// Kept: as in `opening_case`.
-fn lending_case(case: u64) -> Act {
-    match case {
-        80 => Act::Open(samples::settings(1, 2)),
-        81 => Act::Write(511),
-        82 => Act::Write(512),
-        83 => Act::Admit(samples::container(2, 1)),
-        84 => Act::Write(1023),
-        79 | 85 => Act::Write(1025),
-        86 => Act::Batch(samples::container(2, 1), 511, 2),
-        87 => Act::Batch(samples::container(2, 1), 512, 1),
-        88 => Act::Batch(samples::container(2, 1), 0, 0),
-        90 => Act::Batch(samples::spoiled(samples::container(2, 1)), 512, 2),
-        91 => Act::Batch(samples::policy(1, 0, 1, 2), 512, 2),
-        _ => Act::Batch(samples::container(2, 1), 512, 2),
-    }
+fn lending_cases() -> [(u64, Act); 13] {
+    [
+        (79, Act::Write(1025)),
+        (80, Act::Open(samples::settings(1, 2))),
+        (81, Act::Write(511)),
+        (82, Act::Write(512)),
+        (83, Act::Admit(samples::container(2, 1))),
+        (84, Act::Write(1023)),
+        (85, Act::Write(1025)),
+        (86, Act::Batch(samples::container(2, 1), 511, 2)),
+        (87, Act::Batch(samples::container(2, 1), 512, 1)),
+        (88, Act::Batch(samples::container(2, 1), 0, 0)),
+        (89, Act::Batch(samples::container(2, 1), 512, 2)),
+        (
+            90,
+            Act::Batch(samples::spoiled(samples::container(2, 1)), 512, 2),
+        ),
+        (91, Act::Batch(samples::policy(1, 0, 1, 2), 512, 2)),
+    ]
 }
 
-// Kept: as in `opening_case`.
-fn act_of(case: u64) -> Act {
-    match case {
-        0..=16 => opening_case(case),
-        17..=39 => Act::Admit(entry_case(case)),
-        40..=49 => asking_case(case),
-        50..=63 => freeing_case(case),
-        64..=78 => filling_case(case),
-        _ => lending_case(case),
-    }
-}
-
-// Kept: the numbers are those that C is answered.
+// Kept: the C interface: the numbers are those that C is answered; and the printer beside the case, of which a struct would be made anew
+// for each case.
 fn line(rt: &impl Print, case: u64, refusal: u64, value: u64) -> io::Result<()> {
     println!(rt; "{case} {refusal} {value}")
 }
@@ -253,11 +281,20 @@ fn run(rt: &impl Print, memory: &mut [u64], case: u64, act: Act) -> io::Result<(
     show(rt, case, answer)
 }
 
-fn run_all(rt: &impl Print, memory: &mut [u64]) -> io::Result<()> {
-    for case in 1..92 {
-        run(rt, memory, case, act_of(case))?;
+fn run_each(rt: &impl Print, memory: &mut [u64], cases: &[(u64, Act)]) -> io::Result<()> {
+    for (case, act) in cases {
+        run(rt, memory, *case, *act)?;
     }
     Ok(())
+}
+
+fn run_all(rt: &impl Print, memory: &mut [u64]) -> io::Result<()> {
+    run_each(rt, memory, &opening_cases())?;
+    run_each(rt, memory, &entry_cases())?;
+    run_each(rt, memory, &asking_cases())?;
+    run_each(rt, memory, &freeing_cases())?;
+    run_each(rt, memory, &filling_cases())?;
+    run_each(rt, memory, &lending_cases())
 }
 
 fn main(rt: HostRuntime) -> io::Result<()> {

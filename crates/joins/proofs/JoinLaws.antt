@@ -10,15 +10,15 @@ use lib.ListN.{length, get_or, set, length-set}
 use lib.Seq.{get_or-set_same, get_or-set_other}
 use borrow.Author.Tests.{le-leb, lt-leb, leb-true}
 use Rattle.bitrow.specs.Bit.{bit, bit_at, Row}
-use Rattle.bitrow.specs.Set.{meet, join, remove}
+use Rattle.bitrow.specs.Set.{nothing, meet, join, under, remove}
 use Rattle.bitrow.proofs.Words.{bit-zero, bit_below}
 use Rattle.bitrow.proofs.Sets.{point, meet-at, join-at, join-assoc, join-self, remove-there, remove-other}
 use Rattle.store.proofs.Cases.{by_eqb}
 use Rattle.model.specs.Model.{container_slots}
 use Rattle.model.proofs.Lists.{both}
 use Rattle.sets.specs.Sets.{bits, Empty}
-use Rattle.rules.specs.Lets.{having, union}
-use Rattle.rules.proofs.Unions.{union-none, union-skip, union-take}
+use Rattle.rules.specs.Lets.{having}
+use Rattle.rules.proofs.Unions.{Joining, having_begun, having-take, having-skip, having_ended}
 use Rattle.joins.specs.Joins.{join_if, raised, Joined, LinesAre}
 
 -- ---- a set joined to some rows
@@ -53,15 +53,15 @@ by-raised P n a f g = go (dec_lt a n)
     go (no h) = let e : n + (a - n) ≡ a = omega arith in subst P e (g (a - n))
 
 -- what is joined for the rest of a word gives the whole
-pub record Joining (first word : ℕ) (u : ℕ → Bool) (before after : List (List ℕ)) (rest : ℕ) : Type 0 where
+pub record WordJoining (first word : ℕ) (u : ℕ → Bool) (before after : List (List ℕ)) (rest : ℕ) : Type 0 where
   pub size : length after ≡ length before
   pub small : rest < 2 ^ 64
   pub row : (a : ℕ) → join_if (raised first (bit rest) a) (bits after a) u ≡ join_if (raised first (bit word) a) (bits before a) u
 
 module _ (first word : ℕ) (u : ℕ → Bool) (before : List (List ℕ)) where
-  module _ {after : List (List ℕ)} {rest : ℕ} (g : Joining first word u before after rest) where
+  module _ {after : List (List ℕ)} {rest : ℕ} (g : WordJoining first word u before after rest) where
     pub joining-next : (k : ℕ) {next : ℕ} → bit rest k ≡ true → bit next ≡ remove k (bit rest) → next < rest
-        → (row : List ℕ) → first + k < length after → bit_at row ≡ join (bits after (first + k)) u → Joining first word u before (set after (first + k) row) next
+        → (row : List ℕ) → first + k < length after → bit_at row ≡ join (bits after (first + k)) u → WordJoining first word u before (set after (first + k) row) next
     joining-next k {next} t d l row h e = record {
       size = length-set after (first + k) row ∙ g.size;
       small = omega (arith, l, g.small);
@@ -134,24 +134,32 @@ module _ (r : List ℕ) (p : Row r) where
 
 -- ---- lines, policy by policy
 
-module _ {some t : ℕ → Bool} {s u : ℕ → ℕ → Bool} {lines : List (List ℕ)} where
-  pub lines_none : Empty container_slots lines → LinesAre 0 some t s u lines
-  lines_none e = record { size = e.shape.size; row = λ a l k. e.row a ∙ sym (union-none (having t s a) u) }
+-- the lines so far, and the rows of the policies to come, make the unions
+pub record LinesSoFar (some t : ℕ → Bool) (s u : ℕ → ℕ → Bool) (l : ℕ → Bool) (lines : List (List ℕ)) : Type 0 where
+  pub size : length lines ≡ container_slots
+  pub row : (a : ℕ) → a < container_slots → some a ≡ true → Joining (having t s a) u (having l s a) (bits lines a)
 
-  module _ {p : ℕ} (g : LinesAre p some t s u lines) where
-    pub lines-skip : t p ≡ false → LinesAre (p + 1) some t s u lines
-    unfolding having
-    lines-skip e = record { size = g.size; row = λ a l k. g.row a l k ∙ sym (union-skip (having t s a) u p (ap (λ b. b && s p a) e)) }
+module _ {some t : ℕ → Bool} {s u : ℕ → ℕ → Bool} {l : ℕ → Bool} {lines : List (List ℕ)} where
+  pub lines_none : Empty container_slots lines → l ≡ meet t (under 128) → LinesSoFar some t s u l lines
+  lines_none e f = record { size = e.shape.size; row = λ a h k. having_begun t s u a f (e.row a) }
 
-    pub lines-take : {w v : ℕ → Bool} {next : List (List ℕ)} → t p ≡ true → w ≡ meet (s p) some → v ≡ u p → Joined w v lines next → LinesAre (p + 1) some t s u next
-    unfolding having
-    lines-take {w} {v} {next} e f h j = record {
+  module _ (g : LinesSoFar some t s u l lines) where
+    pub lines-take : {p : ℕ} {rest w v : ℕ → Bool} {next : List (List ℕ)} → (p < 128) × (l p ≡ true) × (rest ≡ remove p l)
+        → w ≡ meet (s p) some → v ≡ u p → Joined w v lines next → LinesSoFar some t s u rest next
+    lines-take {p} {rest} {w} {v} {next} step f h j = record {
       size = j.size ∙ g.size;
-      row = λ a l k. j.row a l ∙ ap₂ (λ b r. join_if b r v) (point f a ∙ meet-at (s p) some a ∙ ap (λ b. s p a && b) k ∙ and-true (s p a)) (g.row a l k) ∙ go a (s p a) refl;
+      row = λ a i k. go a i k (s p a) refl;
     }
       where
-        go : (a : ℕ) (b : Bool) → s p a ≡ b → join_if (s p a) (union (having t s a) u p) v ≡ union (having t s a) u (p + 1)
-        go a true d =
-            join-yes (union (having t s a) u p) v d ∙ ap (join (union (having t s a) u p)) h
-            ∙ sym (union-take (having t s a) u p (ap₂ ◌&&◌ e d))
-        go a false d = join-no (union (having t s a) u p) v d ∙ sym (union-skip (having t s a) u p (ap₂ ◌&&◌ e d))
+        has : (a : ℕ) → some a ≡ true → w a ≡ s p a
+        has a k = point f a ∙ meet-at (s p) some a ∙ ap (λ b. s p a && b) k ∙ and-true (s p a)
+
+        go : (a : ℕ) → a < container_slots → some a ≡ true → (b : Bool) → s p a ≡ b → Joining (having t s a) u (having rest s a) (bits next a)
+        go a i k true d =
+            having-take t s u a l (g.row a i k) step.2 step.0 step.1 d
+            (j.row a i ∙ join-yes (bits lines a) v (has a k ∙ d) ∙ ap (join (bits lines a)) h)
+        go a i k false d =
+            rw (j.row a i ∙ join-no (bits lines a) v (has a k ∙ d)) (having-skip t s u a l (g.row a i k) step.2 d)
+
+    pub lines-all : l ≡ nothing → LinesAre 128 some t s u lines
+    lines-all e = record { size = g.size; row = λ a h k. having_ended t s u a l (g.row a h k) e }

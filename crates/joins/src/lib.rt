@@ -8,10 +8,11 @@ ghost use Rattle.sets.specs.Sets.{bits, Empty};
 ghost use Rattle.joins.specs.Joins.{raised, Joined, LinesAre};
 
 use row_members::Bits;
+use rules::Policies;
 
 // A set joined to the row of each of some containers, of which `word` has the 64 from `first` on.
 fn join_word(lines: &mut [[u64; 4]; 256], word: u64, first: usize, whom: [u64; 4])
-    requires { (length lines.old ≡ container_slots) × (first ≤ 192) }
+    requires { first ≤ 192 }
     ensures { Joined (raised first (bit word)) (bit_at whom) lines.old lines.new }
 {
     for k in Bits(word) {
@@ -23,7 +24,6 @@ fn join_word(lines: &mut [[u64; 4]; 256], word: u64, first: usize, whom: [u64; 4
 
 // The same by a row of four words.
 fn join_rows(lines: &mut [[u64; 4]; 256], who: [u64; 4], whom: [u64; 4])
-    requires { length lines.old ≡ container_slots }
     ensures { Joined (bit_at who) (bit_at whom) lines.old lines.new }
 {
     join_word(lines, who[0], 0, whom);
@@ -44,10 +44,8 @@ pub fn join_all(
     requires { Empty container_slots lines.old }
     ensures { LinesAre 128 (bit_at some) (bit_at policies) (bits tests.now) (bits rows.now) lines.new }
 {
-    for q in 0..128usize {
-        if bitrow::bit_of(policies[q / 64], q) {
-            let those = row_sets::both(tests[q], some);
-            join_rows(lines, those, rows[q]);
-        }
+    for q in Policies::of(policies) {
+        let those = row_sets::both(tests[q], some);
+        join_rows(lines, those, rows[q]);
     }
 }

@@ -12,6 +12,7 @@ ghost use Rattle.label_table.specs.Rows.{Shaped, Empty};
 ghost use Rattle.label_table.specs.LabelRows.{Marked, LabelRows};
 
 use label_table::LabelTable;
+use store::Words;
 
 // Container c in the row of a label.
 fn mark(table: &mut LabelTable, label: u64, c: usize)
@@ -39,7 +40,7 @@ fn mark_container(table: &mut LabelTable, memory: &[u64], c: usize)
 }
 
 // Every container in the rows of its labels, where the rows are empty before.
-pub fn mark_all(table: &mut LabelTable, memory: &[u64])
+pub fn mark_all(table: &mut LabelTable, memory: &Words)
     requires { EntriesFormed memory.now × Empty places table.old.rows }
     ensures kept { table.new.labels ≡ table.old.labels }
     ensures marked { LabelRows memory.now 256 table.new }

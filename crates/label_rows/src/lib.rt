@@ -8,11 +8,12 @@ ghost use Rattle.entries.specs.Entries.{PartOfLabels, trial_set};
 ghost use Rattle.label_table.specs.LabelRows.{LabelRows};
 
 use label_table::LabelTable;
+use store::Words;
 
 // Of the candidates, those that the part at `part` matches: narrowed by the rows of its labels, and tried if a label was not found.
-// Kept: what the part and the table are to the memory is asked here and where it is called: a ghost field cannot name the memory, which
-// is an argument of its own.
-pub fn matching(memory: &[u64], table: &LabelTable, part: usize, candidates: [u64; 4]) -> [u64; 4]
+// Kept: what the part and the table are to the memory is asked here and where it is called: a struct would hold the memory as a ghost, and
+// each call would show beside it that it is lent the same.
+pub fn matching(memory: &Words, table: &LabelTable, part: usize, candidates: [u64; 4]) -> [u64; 4]
     requires { EntriesFormed memory.now × PartOfLabels memory.now part × LabelRows memory.now 256 table.now }
     ensures { bit_at result ≡ trial_set memory.now part (bit_at candidates) }
 {

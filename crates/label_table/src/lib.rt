@@ -7,6 +7,8 @@ ghost use Rattle.formed.specs.Registry.{EntriesFormed};
 ghost use Rattle.entries.specs.Entries.{PartWithin};
 ghost use Rattle.label_table.specs.LabelTable.{places, first_place, table_place, entered, in_turn, part_entered, policy_entered};
 
+use store::Words;
+
 // At each place a label, or 0, and the row of the containers that carry it.
 // Kept: two arrays, since a place is found and a label entered by the labels alone, and a set's rows are an array of rows
 // (docs/DECISIONS.md 24).
@@ -53,7 +55,8 @@ fn enter(labels: &mut [u64; 1024], label: u64)
 }
 
 // The labels of the part whose header is at `part`.
-// Kept: the memory with a position, which the definition of what is entered speaks of.
+// Kept: the memory with a position: the part's labels as a slice would be no plainer, since each caller would call `labels_of` for them,
+// and the definition is of a part of the memory.
 fn enter_part(labels: &mut [u64; 1024], memory: &[u64], part: usize)
     requires { PartWithin memory.now part }
     ensures { labels.new ≡ part_entered memory.now labels.old part }
@@ -64,7 +67,7 @@ fn enter_part(labels: &mut [u64; 1024], memory: &[u64], part: usize)
 }
 
 // The labels of every policy's parts.
-pub fn enter_all(labels: &mut [u64; 1024], memory: &[u64])
+pub fn enter_all(labels: &mut [u64; 1024], memory: &Words)
     requires { EntriesFormed memory.now }
     ensures { labels.new ≡ in_turn (policy_entered memory.now) 0 128 labels.old }
 {

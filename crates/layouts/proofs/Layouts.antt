@@ -1,23 +1,22 @@
 -- Two runs and two ranges, of which one of each may be empty, say what the two layouts do; and what limits that hold tell.
-use mathlib.Core.Path.{◌≡◌, refl, sym, ap, ap₂, ◌∙◌}
+use mathlib.Core.Path.{◌≡◌, refl, sym, ap, ◌∙◌}
 use mathlib.Core.List.{List, [], ◌∷◌, ◌++◌}
 use Prim.Native.Nat.{ℕ, ◌+◌, ◌*◌, ◌≤◌}
 use native.Mathlib.Nat.{le_trans}
 use native.Mathlib.Omega.{arith}
 use borrow.Author.Tests.{leb-true}
 use lib.Dec.{leb}
-use Rattle.std.specs.Prelude.{Option, None, Some, Result, Ok, Err, ⊤}
+use Rattle.std.specs.Prelude.{Option, None, Some, Result, ⊤}
 use Rattle.std.specs.Option.{option_or}
-use Rattle.block.specs.declared.Reason.{Reason}
 use Rattle.block.specs.declared.Reason.TheVariants.{Limit, Range, Order, Unused}
 use Rattle.block.specs.declared.Refusal.{Refusal}
 use Rattle.layouts.specs.declared.Body.{Body}
 use Rattle.block.specs.Bytes.{byte_at}
 use Rattle.block.specs.Fault.{unless, first_in}
-use Rattle.block.specs.Refusal.{Check, check, refuse, first_refusal}
+use Rattle.block.specs.Refusal.{Check, check, first_refusal}
 use Rattle.block.specs.Reader.{Run, Span, within, range_fault, order_fault, range_faults, order_faults, unused_fault, container_layout, policy_layout}
 use Rattle.layouts.specs.Steps.{runs_of, unused_of, body_checks, layout_checks}
-use Rattle.block.proofs.Checks.{unless-none, or_else-none, or_else-nowhere, refuse-past, refuse-stops, within-bounds}
+use Rattle.block.proofs.Checks.{unless-none, or_else-none, within-bounds}
 use Rattle.block_bytes.specs.Used.{UsedEnd}
 use Rattle.block_bytes.proofs.Zeros.{no_byte, used-zeros}
 
@@ -125,19 +124,3 @@ policy-layout b f m n e u q h k =
     ∙ ap (λ (i : ℕ). answered b (policy_layout b).limits (policy_body i n 510)) h
     ∙ ap (λ (j : ℕ). answered b (policy_layout b).limits (policy_body (byte_at b 2) j 510)) k
     ∙ ap (λ (cs : List Check). first_refusal (check Limit (policy_layout b).limits ∷ cs)) (empty-range b (policy_layout b).runs [] (policy_layout b).unused 4)
-
--- ---- a check answered by itself, and those after it
-
-pub past : (w : Reason) (f : Option ℕ) (t r rest : Result ⊤ Refusal) → t ≡ refuse w f (Ok tt) → t ≡ Ok tt → r ≡ rest → r ≡ refuse w f rest
-past w f t r rest e o h = h ∙ sym (refuse-past w f rest (sym e ∙ o))
-
-pub stops : (w : Reason) (f : Option ℕ) (t r rest : Result ⊤ Refusal) (x : Refusal) → t ≡ refuse w f (Ok tt) → t ≡ Err x → r ≡ Err x → r ≡ refuse w f rest
-stops w f t r rest x e o h = h ∙ sym (refuse-stops w f rest x (sym e ∙ o))
-
--- a fault that is worked out
-pub by-fault : (w : Reason) (f g : Option ℕ) (t : Result ⊤ Refusal) → t ≡ refuse w f (Ok tt) → f ≡ g → t ≡ refuse w g (Ok tt)
-by-fault w f g t e h = e ∙ ap (λ (x : Option ℕ). refuse w x (Ok tt)) h
-
--- the first fault in a list of two
-pub in-two : (r x y a b : Option ℕ) → r ≡ option_or x y → x ≡ a → y ≡ b → r ≡ option_or a (option_or b None)
-in-two r x y a b e h k = e ∙ ap₂ option_or h (k ∙ sym (or_else-nowhere b))

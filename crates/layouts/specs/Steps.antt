@@ -15,9 +15,9 @@ abbrev pub IsWhole : List ℕ → Result (Bor (List ℕ)) Refusal → Type 0
 IsWhole b (Ok w) = (w.now ≡ b) × (length b ≡ 512)
 IsWhole b (Err r) = (r ≡ record { reason = BlockLength; position = 0 }) × (length b ≢ 512)
 
--- 3 and 4, and where the used bytes of a block that meets neither end
-abbrev pub Frames : List ℕ → Result ℕ Refusal → Type 0
-Frames b (Ok end) = (first_refusal (frame b) ≡ Ok tt) × UsedEnd b end
+-- 3 or 4, or the bytes themselves, that meet neither, and where the used ones end
+abbrev pub Frames : List ℕ → Result (Bor (List ℕ) × ℕ) Refusal → Type 0
+Frames b (Ok f) = (f.0.now ≡ b) × (first_refusal (frame f.0.now) ≡ Ok tt) × UsedEnd f.0.now f.1
 Frames b (Err r) = first_refusal (frame b) ≡ Err r
 
 -- ---- the code holds a layout as two runs of labels and two ranges of unused bytes, of which any may be empty

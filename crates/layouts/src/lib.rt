@@ -1,7 +1,7 @@
 // What every block is tested for, and what an admission block is tested for by its layout.
 #![tactic(auto)]
 
-ghost use Rattle.std.specs.Prelude.{◌≡◌, ◌∷◌, [], length};
+ghost use Rattle.std.specs.Prelude.{◌≡◌, ◌∷◌, length};
 ghost use Rattle.block.specs.Refusal.{check, first_refusal};
 ghost use Rattle.layouts.specs.Steps.{runs_of, unused_of, BodyWithin, body_checks, IsWhole, Frames};
 
@@ -19,19 +19,20 @@ pub fn whole(block: &[u8]) -> Result<&[u8; 512], Refusal>
     })
 }
 
-// Where the used bytes of a block end, or refusal 4. It has one caller: so it is compiled into that, without a call for each block of
-// a batch.
-pub fn frame(block: &[u8; 512]) -> Result<usize, Refusal>
+// The block as its 512 bytes and where the used ones end, or refusal 3 or 4. It has one caller: so it is compiled into that, without a
+// call for each block of a batch.
+pub fn frame(block: &[u8]) -> Result<(&[u8; 512], usize), Refusal>
     ensures { Frames block.now result }
 {
-    let end = block_bytes::used_end(block);
-    if block_bytes::number_at(block, 510) != block_bytes::checksum_to(block, end) {
+    let bytes = whole(block)?;
+    let end = block_bytes::used_end(bytes);
+    if block_bytes::number_at(bytes, 510) != block_bytes::checksum_to(bytes, end) {
         return Err(Refusal {
             reason: Reason::Checksum,
             position: 510,
         });
     }
-    Ok(end)
+    Ok((bytes, end))
 }
 
 // The labels and the unused bytes of an admission block. A run of no label and a span of no byte find no fault.
@@ -44,7 +45,8 @@ pub struct Body {
 }
 
 // Refusal 6, then 7 over all labels, 8 over all labels, each run rising by itself, and 9.
-pub fn layout_test(block: &[u8; 512], limits: Option<usize>, body: Body) -> Result<(), Refusal>
+#[tactic(auto, unfolding(crate::specs::Steps::body_checks, crate::specs::Steps::runs_of, crate::specs::Steps::unused_of))]
+pub fn layout_test(block: &[u8], limits: Option<usize>, body: Body) -> Result<(), Refusal>
     requires { limits ≡ None → BodyWithin (length block.now) body }
     ensures { result ≡ first_refusal (check Reason.Limit limits ∷ body_checks block.now (runs_of body) (unused_of body)) }
 {

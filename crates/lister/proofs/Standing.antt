@@ -1,5 +1,5 @@
 -- How the pump stands: what was written of the sheet, and what of the input is still to come.
-use Rattle.std.proofs.Common.{◌≡◌, Bool, true, ℕ, zero, suc, ◌+◌, ◌-◌, ◌^◌, ◌≤◌, ◌<◌, List, [], ◌++◌, Option, None, Some, IfSome, length, take, drop, slice_range, refl, sym, ap, ◌∙◌, subst, append_assoc, append-nil, arith, length-append, length-take, length-drop}
+use Rattle.std.proofs.Common.{◌≡◌, Bool, true, ℕ, ◌+◌, ◌-◌, ◌^◌, ◌≤◌, ◌<◌, List, [], ◌++◌, Option, None, Some, IfSome, length, take, drop, slice_range, refl, sym, ap, ◌∙◌, subst, append_assoc, append-nil, arith, length-append, length-take, length-drop}
 use Rattle.std.proofs.Math.Seq.{take-append_seam, take-append-add}
 use Rattle.std.proofs.lemmas.Bool.{false≢true}
 use Rattle.std.proofs.lemmas.List.{drop-take, drop-drop, take-take, take-append-le}
@@ -96,28 +96,30 @@ cut_short a b e n w =
     (w.0, few, subst (Appends a b) (take-take w.0 n e few) w.2)
 
 -- what is left of the piece
-piece-after : (bytes : List ℕ) (from : Input) (u : ℕ) → u ≤ left_in from → piece_of bytes (after from u) ≡ drop u (piece_of bytes from)
-piece-after bytes (Unused a e) u h =
+range-after : (bytes : List ℕ) (a e u : ℕ) → u ≤ e - a → slice_range bytes (a + u) e ≡ drop u (slice_range bytes a e)
+range-after bytes a e u h =
     let n : e - a ≡ u + (e - (a + u)) = omega arith in
     rw (n, drop-take u (e - (a + u)) (drop a bytes), drop-drop u a bytes) refl
-piece-after bytes Ended zero h = refl
-piece-after bytes Ended (suc u) h = absurd (omega arith)
+
+piece-after : (bytes : List ℕ) (from : Input) (u : ℕ) → u ≤ left_in from → piece_of bytes (after from u) ≡ drop u (piece_of bytes from)
+piece-after bytes (Unused a e) u h = range-after bytes a e u h
+piece-after bytes (Ended a e) u h = range-after bytes a e u h
 
 pub piece-within : (bytes : List ℕ) (from : Input) → length (piece_of bytes from) ≤ left_in from
 piece-within bytes (Unused a e) = omega (arith, length-take (e - a) (drop a bytes))
-piece-within bytes Ended = omega arith
+piece-within bytes (Ended a e) = omega (arith, length-take (e - a) (drop a bytes))
 
 pub piece_fed : (bytes : List ℕ) (from : Input) → Within from (length bytes) → left_in from ≤ length (piece_of bytes from)
 piece_fed bytes (Unused a e) h = omega (arith, length-take (e - a) (drop a bytes), length-drop a bytes)
-piece_fed bytes Ended h = omega arith
+piece_fed bytes (Ended a e) h = omega (arith, length-take (e - a) (drop a bytes), length-drop a bytes)
 
 pub within_after : (from : Input) (room u : ℕ) → Within from room → u ≤ left_in from → Within (after from u) room
 within_after (Unused a e) room u w h = (omega arith, w.1)
-within_after Ended room u w h = tt
+within_after (Ended a e) room u w h = (omega arith, w.1)
 
 pub ended-after : (from : Input) (u : ℕ) → ended_in (after from u) ≡ ended_in from
 ended-after (Unused a e) u = refl
-ended-after Ended u = refl
+ended-after (Ended a e) u = refl
 
 pub ruleset pieces = (piece-within, piece_fed)
 

@@ -3,9 +3,8 @@
 // The pump of the report: reads pieces of standard input, steps, and writes the text that was put, until the state says that the
 // sheet is whole. Between a reader and a writer whose bytes are known it is proved to hand on every byte; which bytes the system's
 // streams give and take, no contract says.
-ghost use Rattle.std.specs.Prelude.{◌≡◌, ◌≤◌, ◌<◌, ◌^◌, length, IfSome, OnOk, OnErr};
+ghost use Rattle.std.specs.Prelude.{◌≤◌, ◌<◌, ◌^◌, length, IfSome, OnOk, OnErr};
 ghost use Rattle.std.specs.Io.KnownBytes.{Appends};
-ghost use Rattle.store.specs.Layout.{memory_words};
 ghost use Rattle.sheets.specs.Sheet.{sheet};
 ghost use Rattle.streams.specs.Bytes.{AppendsSome};
 
@@ -14,6 +13,7 @@ use std::fs::OpenOptions;
 use std::io::{self, Read, Write};
 use std::process::ExitCode;
 use std::time::Clock;
+use store::Words;
 
 // How many bytes are read and written at once.
 const PIECE: usize = 65536;
@@ -35,17 +35,18 @@ impl fmt::Display for Failure {
 }
 
 // Writes the whole sheet, or its first bytes and says why no more. Each turn, the state has less ahead.
+// Kept: the clock beside the buffer of the input: a struct of them would be made for this one loop.
 #[tactic(auto, using(crate::proofs::Standing::pieces))]
 fn pump<R: Read, W: Write>(
     clock: &impl Clock,
     reader: &mut R,
     writer: &mut W,
-    memory: &mut [u64],
-    block: &mut [u8],
+    memory: &mut Words,
+    block: &mut [u8; 512],
     bytes: &mut [u8],
     out: &mut [u8],
 ) -> Result<(), Failure>
-    requires { (length memory.old ≡ memory_words) × (length block.old ≡ 512) × (128 ≤ length out.old) }
+    requires { 128 ≤ length out.old }
     ensures whole { OnOk result (IfSome (R.remaining reader.old) (λ input. 0 < length bytes.old → length input < 2 ^ 64
         → Appends (W.contents writer.old) (W.contents writer.new) (sheet input))) }
     ensures part { OnErr result (IfSome (R.remaining reader.old) (λ input. 0 < length bytes.old → length input < 2 ^ 64

@@ -18,6 +18,7 @@ use Rattle.store.proofs.Carried.{SameContents, holds_as, holds_by, row-bit, hold
 use Rattle.store.proofs.Columns.{rows_in, rows_out, rows_words, Filling, filling-none, filling-next, filling_skip, filling-all}
 use Rattle.formed.specs.Registry.{stored_bit, contents_of, image}
 use Rattle.formed.proofs.Back.{image-written}
+use Rattle.formed.proofs.Fits.{fits_by, fits_row}
 use Rattle.formed.proofs.StoredLaws.{Fit, stored-matrix, stored-cong}
 use Rattle.matrix_resets.specs.Resets.{reset_where, product, masked, RowReset}
 
@@ -39,13 +40,14 @@ module _ (m row : List ℕ) (a : ℕ) (mask rule : ℕ → Bool) (ha : a < row_c
   row-masked c h y hy =
       point e y ∙ ap (λ (o : Bool). (o && not (mask y)) || (rule y && mask y)) (row-bit m a y hy ∙ h.bits a y ha hy) ∙ masked-bit (c.bits a y) (rule y) (mask y)
 
-  pub row-reset : {m' : List ℕ} → m' ≡ row_set m a row → RowReset m m' a mask rule
+  pub row-reset : Fit row → {m' : List ℕ} → m' ≡ row_set m a row → RowReset m m' a mask rule
   unfolding with_row
-  row-reset f = record {
+  row-reset g f = record {
     holds = λ c h. holds_as (holds_by (holds_row h a row ha) f) _ (record {
       words = λ k l. refl;
       bits = λ x y hx hy. by_eqb (λ t. cond t (bit_at row) (c.bits x) y ≡ cond t (masked mask rule (c.bits a)) (c.bits x) y) x a (λ z. row-masked c h y hy) (λ n. refl);
     });
+    fits = λ h. fits_by _ (fits_row m a row h g) f;
   }
 
 -- ---- the matrix, row by row
@@ -73,9 +75,9 @@ module _ (r : Registry) (s t : ℕ → Bool) where
         let old = (contents_of r).bits (band_row matrix_band n) in
         record { filled = filling_skip g.filled (omega arith) hn (ap (λ (u : Bool). cond u (masked t (matrix_bit r.model n) old) old) f); fit = g.fit }
 
-    pub resets-take : s n ≡ true → {m' : List ℕ} {rule : ℕ → Bool} → RowReset m m' n t rule → rule ≡ matrix_bit r.model n → Fit m' → Resets r s t m' (n + 1)
+    pub resets-take : s n ≡ true → {m' : List ℕ} {rule : ℕ → Bool} → RowReset m m' n t rule → rule ≡ matrix_bit r.model n → Resets r s t m' (n + 1)
     unfolding reset_row
-    resets-take f {m'} {rule} w e fit = record { filled = filling-next g.filled (omega arith) hn turn; fit = fit }
+    resets-take f {m'} {rule} w e = record { filled = filling-next g.filled (omega arith) hn turn; fit = w.fits g.fit }
       where
         there : n ≡ band_row matrix_band n
         there = omega arith

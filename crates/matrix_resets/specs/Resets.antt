@@ -1,8 +1,9 @@
 -- Bits of the matrix set by the rules, row by row.
-use Rattle.std.specs.Prelude.{◌≡◌, Bool, true, ◌&&◌, cond, List, ℕ}
+use Rattle.std.specs.Prelude.{◌≡◌, Bool, true, ◌&&◌, cond, List, ℕ, ◌^◌, ◌<◌}
 use Rattle.bitrow.specs.Bit.{bit_at}
 use Rattle.model.specs.Model.{Model, matrix_bit}
 use Rattle.model.specs.Registry.{Registry, set_where}
+use Rattle.store.specs.Layout.{word_at}
 use Rattle.store.specs.Contents.{Contents, Holds}
 use Rattle.store.specs.Memory.{with_row}
 use Rattle.matrix_rows.specs.declared.Gathered.{Gathered}
@@ -27,9 +28,10 @@ product s t a b = s a && t b
 unfoldable pub masked : (ℕ → Bool) → (ℕ → Bool) → (ℕ → Bool) → ℕ → Bool
 masked mask rule old y = cond (mask y) (rule y) (old y)
 
--- m' is m but for row a, whose bits of the mask are made the rule's
+-- m' is m but for row a, whose bits of the mask are made the rule's; words below 2 ^ 64 stay so
 pub record RowReset (m m' : List ℕ) (a : ℕ) (mask rule : ℕ → Bool) : Type 0 where
   pub holds : (c : Contents) → Holds m c → Holds m' (with_row c a (masked mask rule (c.bits a)))
+  pub fits : ((k : ℕ) → word_at m k < 2 ^ 64) → (k : ℕ) → word_at m' k < 2 ^ 64
 
 -- what is read from g for one of some is its row of the matrix of m
 pub record RowsFrom (m : Model) (some : ℕ → Bool) (g : Gathered) : Type 0 where

@@ -11,11 +11,12 @@ ghost use Rattle.matrix_rows.specs.Rows.{meet_if, Ungathered, Gathers, RowFrom};
 
 use block::Direction;
 use sets::PolicySets;
+use store::Words;
 
 // What rows of the matrix are read from: each policy's two sets, the standing containers, those that an egress policy selects, those
 // that an ingress policy selects, and for each container in `outs` what the egress policies that select it allow, in `backs` what the
 // ingress policies that allow it select.
-// Kept: it is lent and never passed by value, since it has 24 KiB.
+// Of its 24 KiB none is copied: it is made where it is kept, and lent.
 #[derive(Drop)]
 pub struct Gathered {
     pub sets: PolicySets,
@@ -44,7 +45,7 @@ pub fn ungathered(standing: [u64; 4]) -> Gathered
 }
 
 // What the rows of some containers are read from is gathered, where nothing is yet but the sets of the policy `known`, if any.
-pub fn gather(memory: &[u64], known: Option<usize>, some: [u64; 4], gathered: &mut Gathered)
+pub fn gather(memory: &Words, known: Option<usize>, some: [u64; 4], gathered: &mut Gathered)
     requires entries_formed { EntriesFormed memory.now × (bit_at gathered.old.standing ≡ stands (model_in memory.now).containers) }
     requires known_sets { KnownSets (model_in memory.now) known gathered.old.sets }
     requires empty { Empty container_slots gathered.old.outs × Empty container_slots gathered.old.backs }

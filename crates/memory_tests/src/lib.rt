@@ -3,52 +3,39 @@
 
 ghost use Rattle.std.specs.Prelude.{◌≡◌};
 ghost use Rattle.bitrow.specs.Bit.{bit_at};
-ghost use Rattle.store.specs.Layout.{Whole};
 ghost use Rattle.formed.specs.Registry.{well_formed};
 ghost use Rattle.formed.specs.Tests.{matrix_ok, sets_ok};
 
 use model::{ContainerSlot, PolicySlot};
+use store::Words;
 
 // Kept: a container has one row and a policy two, so one function for both would take the number of rows and divide by it.
-fn matrix_ok(memory: &[u64], standing: [u64; 4]) -> bool
-    requires { Whole memory.now }
+fn matrix_ok(memory: &Words, standing: [u64; 4]) -> bool
     ensures { result ≡ matrix_ok memory.now (bit_at standing) }
 {
-    for a in 0..store::CONTAINER_SLOTS {
+    (0..store::CONTAINER_SLOTS).all(|a| {
         let owner = memory[store::CONTAINERS + store::CONTAINER_WORDS * a];
-        if !word_tests::row_ok(memory, a, owner, standing) {
-            return false;
-        }
-    }
-    true
+        word_tests::row_ok(memory, a, owner, standing)
+    })
 }
 
 // Kept: two rows for each policy, where a container has one.
-fn sets_ok(memory: &[u64], standing: [u64; 4]) -> bool
-    requires { Whole memory.now }
+fn sets_ok(memory: &Words, standing: [u64; 4]) -> bool
     ensures { result ≡ sets_ok memory.now (bit_at standing) }
 {
-    for q in 0..store::POLICY_SLOTS {
+    (0..store::POLICY_SLOTS).all(|q| {
         let owner = memory[store::POLICIES + store::POLICY_WORDS * q];
         let selected = store::SELECTED_ROWS + store::SET_STEP * q;
-        if !word_tests::row_ok(memory, selected, owner, standing) {
-            return false;
-        }
         let allowed = store::ALLOWED_ROWS + store::SET_STEP * q;
-        if !word_tests::row_ok(memory, allowed, owner, standing) {
-            return false;
-        }
-    }
-    true
+        word_tests::row_ok(memory, selected, owner, standing)
+            && word_tests::row_ok(memory, allowed, owner, standing)
+    })
 }
 
-// Whether a memory is well formed: the test of refusals 1 and 2.
-pub fn well_formed(memory: &[u64]) -> bool
+// Whether a memory of our size is well formed.
+fn formed(memory: &Words) -> bool
     ensures { result ≡ well_formed memory.now }
 {
-    if memory.len() != store::WORDS {
-        return false;
-    }
     if !entry_tests::settings_ok(memory) {
         return false;
     }
@@ -63,4 +50,14 @@ pub fn well_formed(memory: &[u64]) -> bool
         return false;
     }
     sets_ok(memory, standing)
+}
+
+// Whether a memory is well formed: the test of refusals 1 and 2.
+pub fn well_formed(memory: &[u64]) -> bool
+    ensures { result ≡ well_formed memory.now }
+{
+    match memory.as_array() {
+        Some(memory) => formed(memory),
+        None => false,
+    }
 }

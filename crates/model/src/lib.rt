@@ -44,14 +44,16 @@ pub enum Kind {
 }
 
 impl Kind {
+    // Kept: a method, as at `block::Reason`.
     pub fn number(self) -> u16
         ensures { result ≡ kind_number self }
     {
         self as u16
     }
 
-    // Kept: `number: u16`; this is where a number becomes a kind.
-    pub fn numbered(number: u16) -> Option<Kind>
+    // Kept: `number: usize`: this is where a number becomes a kind, and any may be asked of; a `TryFrom` would want an error type that
+    // nobody reads.
+    pub fn numbered(number: usize) -> Option<Kind>
         ensures { MatchOption result (number ≡ 0 ⊎ 7 < number) (λ kind. number ≡ kind_number kind) }
     {
         match number {

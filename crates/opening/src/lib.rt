@@ -7,14 +7,13 @@ ghost use Rattle.steps.specs.MemoryStep.{memory_step};
 ghost use Rattle.answers.specs.Answers.{outcome_answer};
 
 use block::Reason;
+use store::Words;
 
 // A registry without entries, under the settings of the block. What the memory held before counts for nothing.
 pub fn open(memory: &mut [u64], block: &[u8]) -> Result<(), Reason>
     ensures { (memory.new, outcome_answer result) ≡ memory_step memory.old (open_with block.now) }
 {
-    if memory.len() != store::WORDS {
-        return Err(Reason::MemorySize);
-    }
+    let memory: &mut Words = memory.as_mut_array().ok_or(Reason::MemorySize)?;
     let settings = reader::read_settings(block)?;
     clearing::start(memory, settings);
     Ok(())

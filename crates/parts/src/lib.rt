@@ -22,8 +22,8 @@ fn label_word(block: &[u8], from: usize, n: usize, k: usize) -> u64
 }
 
 // The n labels from byte `from` of a block, put as a part of `limit` labels at word `at`: header, labels, zeros.
-// Kept: the memory and the block with positions, which are what the clauses of placing speak of; and the `as`, since no `From` makes
-// a `u64` of a `usize`.
+// Kept: the memory and the block with positions: slices of both would be no plainer, since each caller would carry the clause back to the
+// memory and the block; and the `as`, since no `From` makes a `u64` of a `usize`.
 pub fn put_part(memory: &mut [u64], at: usize, limit: usize, block: &[u8], from: usize, n: usize)
     requires { (at + (1 + limit) ≤ length memory.old) × (from + 4 * n ≤ length block.now) }
     ensures { memory.new ≡ slot_set memory.old at (1 + limit) (part_word (labels_at block.now from n)) }

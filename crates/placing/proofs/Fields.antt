@@ -2,7 +2,8 @@
 use mathlib.Core.Path.{◌≡◌}
 use mathlib.Core.Bool.{true}
 use mathlib.Core.List.{List}
-use Prim.Native.Nat.{ℕ, ◌+◌, ◌*◌, ◌≤◌}
+use mathlib.Core.Option.{some}
+use Prim.Native.Nat.{ℕ, ◌+◌, ◌*◌, ◌^◌, ◌≤◌}
 use native.Mathlib.Omega.{arith}
 use lib.ListN.{length}
 use Rattle.block.specs.Entry.{Settings, container, policy}
@@ -12,8 +13,9 @@ use Rattle.block.specs.Written.{direction_number, valid_labels}
 use Rattle.block.proofs.Accepted.{entry-accepted, accepted-valid, policy-direction}
 use Rattle.block.proofs.Checks.{within-bounds}
 use Rattle.block.proofs.LabelLists.{length-labels-at}
+use Rattle.formed.specs.Words.{container_word, policy_word}
 use Rattle.formed.proofs.Parts.{labels-few}
-use Rattle.formed.proofs.Slots.{valid-container, valid-policy}
+use Rattle.formed.proofs.Slots.{valid-container, valid-policy, container-small, policy-small}
 use Rattle.formed.proofs.EntryTests.{direction-read}
 
 count-few : (limit : ℕ) (b : List ℕ) (p n : ℕ) → valid_labels limit (labels_at b p n) ≡ true → n ≤ limit
@@ -29,6 +31,10 @@ container-fields s b q = record {
   long = ((entry-accepted s b _).0 q).long;
   count = count-few 8 b 4 (byte_at b 1) (valid-container s _ (accepted-valid s b _ q));
 }
+
+-- and the words of its slot are small
+pub container-fits : (s : Settings) (b : List ℕ) → AcceptedAs s b (container (container_said b)) → (k : ℕ) → container_word (some (container_said b)) k ≤ 2 ^ 23
+container-fits s b q = container-small s (some (container_said b)) (accepted-valid s b _ q)
 
 pub record PolicyFields (b : List ℕ) : Type 0 where
   pub long : length b ≡ 512
@@ -47,3 +53,6 @@ policy-fields s b q =
       select = count-few 4 b 4 (byte_at b 2) v.select;
       allow = count-few 4 b (4 + 4 * byte_at b 2) (byte_at b 3) v.allow;
     }
+
+pub policy-fits : (s : Settings) (b : List ℕ) → AcceptedAs s b (policy (policy_said b)) → (k : ℕ) → policy_word (some (policy_said b)) k ≤ 2 ^ 23
+policy-fits s b q = policy-small s (some (policy_said b)) (accepted-valid s b _ q)

@@ -16,15 +16,17 @@ use Rattle.model.specs.Table.{on, at, stands}
 use Rattle.model.specs.Rules.{selects}
 use Rattle.model.specs.Model.{policy_slots, Model, with_policy, matrix_bit, selected_bit, allowed_bit, computed_bits}
 use Rattle.model.specs.Registry.{Registry, set_where, touched, change_policy}
-use Rattle.store.specs.Layout.{policy_start, word_at}
+use Rattle.store.specs.Layout.{policy_start, policy_words, word_at}
+use Rattle.store.specs.Memory.{slot_set}
 use Rattle.store.proofs.Cases.{by_eqb}
 use Rattle.formed.specs.Words.{policy_word, policy_in}
 use Rattle.formed.specs.Registry.{model_in, registry_in, image, valid_policy, ValidEntries, EntriesFormed}
 use Rattle.formed.specs.Placed.{policy_placed}
+use Rattle.formed.proofs.Fits.{fits_by, fits-slot, fits-image}
 use Rattle.formed.proofs.StoredLaws.{Fit}
 use Rattle.formed.proofs.Slots.{first_word}
 use Rattle.formed.proofs.Reading.{policy-slot, formed-policy}
-use Rattle.formed.proofs.Placed.{policy-placed-valid, policy-placed-in, image-entries, image-model, image-says}
+use Rattle.formed.proofs.Placed.{policy-image, policy-placed-valid, policy-placed-in, image-entries, image-model, image-says}
 use Rattle.policy_sets.specs.PolicySets.{settled, SetsStored}
 use Rattle.policy_sets.proofs.SettledPolicy.{settled-entries, settled-model, settled_says, settled-stored}
 use Rattle.matrix_resets.specs.Resets.{reset_where}
@@ -58,6 +60,11 @@ pub stored-direction : (m : List ℕ) → EntriesFormed m → (q : ℕ) → q < 
 stored-direction m ok q hq p e =
     ap direction_of (first_word m (policy_start q) _ (policy_word (policy_in m q)) (formed-policy m ok q hq) ∙ ap (λ o. policy_word o 0) (sym (policy-slot m q hq) ∙ e))
     ∙ direction-back p.direction
+
+-- the slot made free
+pub slot-freed : (m : List ℕ) → EntriesFormed m → (q : ℕ) → q < policy_slots → Fit m → {e : List ℕ} → e ≡ slot_set m (policy_start q) policy_words (λ k. 0)
+    → e ≡ image (policy_placed (registry_in m) q none)
+slot-freed m ok q hq fit f = policy-image m ok q none hq f (fits_by _ (fits-slot m (policy_start q) policy_words (λ k. 0) fit (λ k l. omega arith)) f)
 
 -- the slot holds x, and the bits are as they were
 module _ (m : List ℕ) (ok : EntriesFormed m) (q : ℕ) (hq : q < policy_slots) (x : Option Policy) (v : valid_policy (model_in m).settings x ≡ true) {e1 : List ℕ} (f : e1 ≡ image (policy_placed (registry_in m) q x)) where
@@ -111,7 +118,11 @@ module _ (m : List ℕ) (ok : EntriesFormed m) (q : ℕ) (hq : q < policy_slots)
         h ∙ ap (λ (z : Registry). image (reset_where z (touched z.model p))) (settled_says e1 held-entries q hq g ∙ ap (λ (z : Registry). settled z q) held-says)
         ∙ ap image (change-is (registry_in m) q p x)
 
+    change-fit : Fit e2
+    unfolding settled registry_in
+    change-fit = fits_by _ (fits-image (settled (registry_in e1) q) held-entries.entries) g
+
     -- of these there are none where p selects nobody
-    pub change-over : (p : Policy) → Fit e2 → {s : ℕ → Bool} → s ≡ selection (model_in e2) p → not (has_some s) ≡ true → e2 ≡ image (change_policy (registry_in m) q p x)
-    change-over p fit k z =
-        change-done p (reset-none e2 change-entries fit (touched (model_in e2) p) (nobody-touched (model_in e2) p (ap has_some (sym k) ∙ not-true _ z)))
+    pub change-over : (p : Policy) → {s : ℕ → Bool} → s ≡ selection (model_in e2) p → not (has_some s) ≡ true → e2 ≡ image (change_policy (registry_in m) q p x)
+    change-over p k z =
+        change-done p (reset-none e2 change-entries change-fit (touched (model_in e2) p) (nobody-touched (model_in e2) p (ap has_some (sym k) ∙ not-true _ z)))

@@ -15,6 +15,7 @@ ghost use Rattle.policy_changes.specs.Region.{Touches, TouchedReset};
 
 use block::Direction;
 use model::PolicySlot;
+use store::Words;
 
 // Bits of the matrix: those in these rows and columns.
 #[derive(Clone, Copy)]
@@ -41,7 +42,7 @@ fn region_of(direction: Direction, selected: [u64; 4], standing: [u64; 4]) -> Re
 
 // The bits of the matrix that such a policy touches set by the rules. Policy q's sets are taken as they are stored.
 fn reset_touched(
-    memory: &mut [u64],
+    memory: &mut Words,
     q: usize,
     direction: Direction,
     selected: [u64; 4],
@@ -56,7 +57,7 @@ fn reset_touched(
 }
 
 // The policy of an accepted block comes to a slot.
-pub fn put_policy(memory: &mut [u64], slot: PolicySlot, block: &[u8])
+pub fn put_policy(memory: &mut Words, slot: PolicySlot, block: &[u8])
     requires { EntriesFormed memory.old × (slot.0 < 128) × AcceptedAs (model_in memory.old).settings block.now (policy (policy_said block.now)) }
     ensures { memory.new ≡ image (change_policy (registry_in memory.old) slot.0 (policy_said block.now) (some (policy_said block.now))) }
 {
@@ -72,7 +73,7 @@ pub fn put_policy(memory: &mut [u64], slot: PolicySlot, block: &[u8])
 }
 
 // The policy at a slot goes.
-pub fn take_policy(memory: &mut [u64], slot: PolicySlot)
+pub fn take_policy(memory: &mut Words, slot: PolicySlot)
     requires { EntriesFormed memory.old × (slot.0 < 128) × (stands (model_in memory.old).policies slot.0 ≡ true) }
     ensures { memory.new ≡ image (change_policy (registry_in memory.old) slot.0 (policy_at memory.old slot.0) none) }
 {

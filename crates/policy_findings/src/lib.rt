@@ -15,12 +15,12 @@ use block::Direction;
 use model::Kind;
 use policy_pairs::Compared;
 use row_members::Members;
-use store::Part;
+use store::{Part, Words};
 
 // The policies that a is compared with: those of its direction, and for conflicts above it.
 // Kept: `AtPolicy` and the row of standing policies beside a slot. Both speak of the memory that is lent, so a struct would hold
 // that as a ghost, and each call would show beside it that it is lent the same memory.
-fn candidates(memory: &[u64], policies: [u64; 4], kind: Kind, a: usize) -> [u64; 4]
+fn candidates(memory: &Words, policies: [u64; 4], kind: Kind, a: usize) -> [u64; 4]
     requires { AtPolicy memory.now a × (bit_at policies ≡ policies_stand memory.now) }
     ensures { Candidates memory.now (kind_number kind) a (bit_at result) }
 {
@@ -35,7 +35,7 @@ fn candidates(memory: &[u64], policies: [u64; 4], kind: Kind, a: usize) -> [u64;
 // 5. Shadow: the policies in whose shadow a policy lies. 6. Conflict: those above it that it conflicts with.
 // Kept: `ComparedIn`, which says of the struct `Compared` that a memory has these sets; as its invariant it would need that memory
 // as a ghost, and each call would show that it is lent the same.
-fn compare_all(memory: &[u64], policies: [u64; 4], kind: Kind, own: &Compared) -> [u64; 4]
+fn compare_all(memory: &Words, policies: [u64; 4], kind: Kind, own: &Compared) -> [u64; 4]
     requires { ComparedIn memory.now own.now × Candidates memory.now (kind_number kind) own.now.slot (bit_at policies) }
     ensures { bit_at result ≡ meet (bit_at policies) (comparison (kind_number kind) memory.now own.now.slot) }
 {
@@ -63,7 +63,7 @@ fn irrelevance(who: [u64; 4], whom: [u64; 4]) -> [u64; 4]
 }
 
 // The findings of a kind over policies at a, as the row of all b.
-pub fn policy_row(memory: &[u64], policies: [u64; 4], kind: Kind, a: usize) -> [u64; 4]
+pub fn policy_row(memory: &Words, policies: [u64; 4], kind: Kind, a: usize) -> [u64; 4]
     requires { (well_formed memory.now ≡ true) × (bit_at policies ≡ policies_stand memory.now) × (a < 256) × (5 ≤ kind_number kind) }
     ensures { bit_at result ≡ shown_at memory.now (kind_number kind) a }
 {
@@ -80,5 +80,17 @@ pub fn policy_row(memory: &[u64], policies: [u64; 4], kind: Kind, a: usize) -> [
             let some = candidates(memory, policies, kind, a);
             compare_all(memory, some, kind, &Compared { slot: a, who, whom })
         }
+    }
+}
+
+// The findings at a of the kind of this number, as the row of all b; above 7, where there is no kind, there are none.
+// Kept: `number: usize`: the promise is of any number (a rule), also of one that is no kind; of a `Kind` it is `policy_row`.
+pub fn policy_row_numbered(memory: &Words, policies: [u64; 4], number: usize, a: usize) -> [u64; 4]
+    requires { (well_formed memory.now ≡ true) × (bit_at policies ≡ policies_stand memory.now) × (a < 256) × (5 ≤ number) }
+    ensures { bit_at result ≡ shown_at memory.now number a }
+{
+    match Kind::numbered(number) {
+        Some(kind) => policy_row(memory, policies, kind, a),
+        None => row_sets::none(),
     }
 }

@@ -8,7 +8,7 @@ ghost use Rattle.formed.specs.Registry.{model_in, bits_in};
 ghost use Rattle.policy_pairs.specs.Comparisons.{comparison, AtPolicy, ComparedIn};
 
 use model::Kind;
-use store::Part;
+use store::{Part, Words};
 
 // A policy that others are compared with: its slot, whom it selects and whom it allows.
 #[derive(Clone, Copy)]
@@ -19,7 +19,7 @@ pub struct Compared {
 }
 
 // Whether two policies are of one direction.
-fn one_direction(memory: &[u64], a: usize, b: usize) -> bool
+fn one_direction(memory: &Words, a: usize, b: usize) -> bool
     requires { AtPolicy memory.now a × AtPolicy memory.now b }
     ensures { result ≡ one_direction (model_in memory.now) a b }
 {
@@ -28,7 +28,8 @@ fn one_direction(memory: &[u64], a: usize, b: usize) -> bool
 }
 
 // Whether a policy lies in b's shadow. Neither of its sets is empty, so its connections lie among b's if its sets are parts of b's.
-fn shadow_at(memory: &[u64], own: &Compared, b: usize) -> bool
+// Kept: `own` beside `b`; the one is made once, and compared with all others in turn.
+fn shadow_at(memory: &Words, own: &Compared, b: usize) -> bool
     requires { ComparedIn memory.now own.now × AtPolicy memory.now b }
     ensures { result ≡ shadow (model_in memory.now) (bits_in memory.now) own.now.slot b }
 {
@@ -44,7 +45,7 @@ fn shadow_at(memory: &[u64], own: &Compared, b: usize) -> bool
 }
 
 // Whether a policy conflicts with b, above it. It allows something.
-fn conflict_at(memory: &[u64], own: &Compared, b: usize) -> bool
+fn conflict_at(memory: &Words, own: &Compared, b: usize) -> bool
     requires { ComparedIn memory.now own.now × AtPolicy memory.now b }
     ensures { result ≡ conflict (model_in memory.now) (bits_in memory.now) own.now.slot b }
 {
@@ -58,7 +59,7 @@ fn conflict_at(memory: &[u64], own: &Compared, b: usize) -> bool
 }
 
 // Whether a policy and b make a finding of shadow, or else of conflict. What can be told without their sets is told first.
-pub fn compare(memory: &[u64], kind: Kind, own: &Compared, b: usize) -> bool
+pub fn compare(memory: &Words, kind: Kind, own: &Compared, b: usize) -> bool
     requires { ComparedIn memory.now own.now × AtPolicy memory.now b }
     ensures { result ≡ comparison (kind_number kind) memory.now own.now.slot b }
 {
@@ -69,5 +70,18 @@ pub fn compare(memory: &[u64], kind: Kind, own: &Compared, b: usize) -> bool
         Kind::Shadow => shadow_at(memory, own, b),
         _ if b <= own.slot => false,
         _ => conflict_at(memory, own, b),
+    }
+}
+
+// Whether a policy and b make a finding of kind 5, or else of 6.
+// Kept: `number: usize`: the promise is of any number (a rule), also of one that is no kind; of a `Kind` it is `compare`.
+pub fn compare_numbered(memory: &Words, number: usize, own: &Compared, b: usize) -> bool
+    requires { ComparedIn memory.now own.now × AtPolicy memory.now b }
+    ensures { result ≡ comparison number memory.now own.now.slot b }
+{
+    if number == 5 {
+        compare(memory, Kind::Shadow, own, b)
+    } else {
+        compare(memory, Kind::Conflict, own, b)
     }
 }

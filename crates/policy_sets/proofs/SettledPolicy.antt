@@ -23,6 +23,7 @@ use Rattle.store.proofs.Cases.{by_eqb}
 use Rattle.store.proofs.Carried.{SameContents, holds_as, holds_by, holds_row}
 use Rattle.formed.specs.Registry.{model_in, bits_in, set_in, registry_in, stored_bit, contents_of, image, ValidEntries, EntriesFormed}
 use Rattle.formed.proofs.Acceptable.{InTables, registry-in-tables}
+use Rattle.formed.proofs.Fits.{fits_by, fits_row}
 use Rattle.formed.proofs.StoredLaws.{Fit, stored-selected, stored-allowed, stored-cong}
 use Rattle.formed.proofs.Back.{image-written}
 use Rattle.formed.proofs.Reading.{entries-hold}
@@ -108,12 +109,13 @@ module _ (m : List ℕ) (ok : EntriesFormed m) (q : ℕ) (hq : q < policy_slots)
   abbrev held : Registry
   held = registry_in m
 
-  pub settled-image : (s a : List ℕ) {e1 e2 : List ℕ} → e1 ≡ row_set m (selected_row q) s → e2 ≡ row_set e1 (allowed_row q) a → bit_at s ≡ selected_bit (model_in m) q → bit_at a ≡ allowed_bit (model_in m) q
-      → Fit e2 → e2 ≡ image (settled held q)
+  pub settled-image : Fit m → (s a : List ℕ) → Fit s → Fit a → {e1 e2 : List ℕ} → e1 ≡ row_set m (selected_row q) s → e2 ≡ row_set e1 (allowed_row q) a → bit_at s ≡ selected_bit (model_in m) q → bit_at a ≡ allowed_bit (model_in m) q
+      → e2 ≡ image (settled held q)
   unfolding settled registry_in
-  settled-image s a {e1} {e2} f1 f2 es ea fit =
+  settled-image fit s a fits fita {e1} {e2} f1 f2 es ea =
       let h1 = holds_by (selected-written held q hq (entries-hold m ok) s) f1 in
-      image-written (with_sets held q (bit_at s) (bit_at a)) e2 (holds_by (allowed-written held q hq (bit_at s) (held.bits.allowed q) h1 a) f2) fit
+      image-written (with_sets held q (bit_at s) (bit_at a)) e2 (holds_by (allowed-written held q hq (bit_at s) (held.bits.allowed q) h1 a) f2)
+      (fits_by _ (fits_row e1 (allowed_row q) a (fits_by _ (fits_row m (selected_row q) s fit fits) f1) fita) f2)
       ∙ ap₂ (λ (x y : ℕ → Bool). image (with_sets held q x y)) es ea
 
   -- a set by the entries has standing slots only, which lie within their tables

@@ -8,10 +8,10 @@ ghost use Rattle.model.specs.Model.{selected_bit, computed_bits};
 ghost use Rattle.formed.specs.Registry.{model_in, set_in, registry_in, image, EntriesFormed};
 ghost use Rattle.policy_sets.specs.PolicySets.{settled};
 
-use store::Part;
+use store::{Part, Words};
 
 // The standing containers that a part of policy q matches: those that the policy selects, or those that it allows.
-pub fn matched(memory: &[u64], part: Part, q: usize, standing: [u64; 4]) -> [u64; 4]
+pub fn matched(memory: &Words, part: Part, q: usize, standing: [u64; 4]) -> [u64; 4]
     requires { EntriesFormed memory.now × (q < 128) × (bit_at standing ≡ stands (model_in memory.now).containers) }
     ensures { bit_at result ≡ set_in (computed_bits (model_in memory.now)) part q }
 {
@@ -19,7 +19,7 @@ pub fn matched(memory: &[u64], part: Part, q: usize, standing: [u64; 4]) -> [u64
 }
 
 // The two sets of policy q, by the entries as they stand, stored. Gives what it selects.
-pub fn settle(memory: &mut [u64], q: usize, standing: [u64; 4]) -> [u64; 4]
+pub fn settle(memory: &mut Words, q: usize, standing: [u64; 4]) -> [u64; 4]
     requires { EntriesFormed memory.old × (q < 128) × (bit_at standing ≡ stands (model_in memory.old).containers) }
     ensures { (memory.new ≡ image (settled (registry_in memory.old) q)) × (bit_at result ≡ selected_bit (model_in memory.old) q) }
 {

@@ -2,6 +2,7 @@
 use mathlib.Core.Path.{◌≡◌, refl, sym, ap, ◌∙◌}
 use mathlib.Core.Bool.{Bool, true, false, not, ◌&&◌, ◌||◌}
 use mathlib.Core.List.{List}
+use mathlib.Core.Option.{some}
 use Prim.Native.Nat.{ℕ, ◌+◌, ◌*◌, ◌/◌, ◌%◌, ◌<◌, ◌≤◌}
 use lib.Dec.{eqb, leb}
 use lib.ListN.{length}
@@ -11,7 +12,7 @@ use Rattle.std.specs.Prelude.{Ok, Err, ⊤, Result}
 use Rattle.block.specs.declared.Reason.{Reason}
 use Rattle.block.specs.declared.Refusal.{Refusal}
 use Rattle.block.specs.Refusal.{reason_number, first_refusal}
-use Rattle.model.specs.Table.{Table, on, stands, free}
+use Rattle.model.specs.Table.{Table, at, on, stands, free}
 use Rattle.model.specs.Rules.{carries}
 use Rattle.model.specs.Model.{container_slots}
 use Rattle.model.specs.Findings.{containers_of, policies_of, pairs}
@@ -31,7 +32,7 @@ use Rattle.entries.proofs.FormedEntries.{formed-labels}
 use Rattle.steps.specs.MemoryStep.{memory_step}
 use Rattle.steps.proofs.Outcomes.{step-refused, reaches-says, user-says, counts-answers}
 use Rattle.call_tests.specs.Tests.{slot_test}
-use Rattle.call_tests.proofs.TestLaws.{reason_for, passed_for, slot_tests, container_test, tabled-free, container-passed}
+use Rattle.call_tests.proofs.TestLaws.{reason_for, passed_for, slot_tests, tabled-free}
 
 -- ---- a pair of slots
 
@@ -54,6 +55,14 @@ module _ {A : Type 0} (size : ℕ) (t : Table A) (f : ℕ → Bool) (same : (i :
           ∙ go (f a) (f b)
 
 module _ (m : List ℕ) (formed : well_formed m ≡ true) where
+  -- what is known past the test of a container's slot
+  pub record Stands (c : ℕ) : Type 0 where
+    pub below : c < container_slots
+    pub there : at (model_in m).containers c ≡ some (part_in m (container_start c))
+
+  abbrev container_test : ℕ → Result ⊤ Reason
+  container_test = slot_test container_slots (free_in m containers_start container_words)
+
   -- whether a reaches b, where b is a slot of the table
   module _ (a b : ℕ) where
     module _ (r : Reason) (k : b < container_slots) where
@@ -68,11 +77,11 @@ module _ (m : List ℕ) (formed : well_formed m ≡ true) where
           (pair-checks container_slots (model_in m).containers (free_in m containers_start container_words) (tabled-free (container_tabled m)) a b (lt-leb container_slots b k) ∙ e)
           ∙ ap (λ x. (m, refusal (reason_number x))) w
 
-      pub reaches-refused-left : container_test m a ≡ Err r → memory_step m (ask (ask_reaches a b)) ≡ (m, refusal (reason_number r))
+      pub reaches-refused-left : container_test a ≡ Err r → memory_step m (ask (ask_reaches a b)) ≡ (m, refusal (reason_number r))
       unfolding slot_test or_refusal
       reaches-refused-left e = let f = reason_for (tests a) e in pair-refused f.0 f.2 (ap (λ x. or_refusal x (tests b)) f.1)
 
-      pub reaches-refused-right : {u : ⊤} → container_test m a ≡ Ok u → container_test m b ≡ Err r → memory_step m (ask (ask_reaches a b)) ≡ (m, refusal (reason_number r))
+      pub reaches-refused-right : {u : ⊤} → container_test a ≡ Ok u → container_test b ≡ Err r → memory_step m (ask (ask_reaches a b)) ≡ (m, refusal (reason_number r))
       unfolding slot_test or_refusal
       reaches-refused-right {u} e g =
           let p = passed_for (tests a) e in
@@ -80,26 +89,22 @@ module _ (m : List ℕ) (formed : well_formed m ≡ true) where
           pair-refused f.0 f.2 (ap (λ x. or_refusal x (tests b)) p ∙ f.1)
 
     -- the stored bit
-    pub reaches-answer : (t : Bool) {u v : ⊤} → container_test m a ≡ Ok u → container_test m b ≡ Ok v → t ≡ bit (word_at m (row_start a + b / 64)) (b % 64)
-        → memory_step m (ask (ask_reaches a b)) ≡ (m, says t)
+    pub reaches-answer : (t : Bool) → Stands a → Stands b → t ≡ bit (word_at m (row_start a + b / 64)) (b % 64) → memory_step m (ask (ask_reaches a b)) ≡ (m, says t)
     unfolding row_bit
-    reaches-answer t e f h =
-        let p = container-passed m a e in
-        let q = container-passed m b f in
-        reaches-says m formed a b (part_in m (container_start a)) (part_in m (container_start b)) p.0 q.0 p.1 q.1
-        ∙ ap (λ t. (m, says t)) (matrix-in m a b p.0 q.0 ∙ sym h)
+    reaches-answer t p q h =
+        reaches-says m formed a b (part_in m (container_start a)) (part_in m (container_start b)) p.below q.below p.there q.there
+        ∙ ap (λ t. (m, says t)) (matrix-in m a b p.below q.below ∙ sym h)
 
   -- ---- a value under the user key
 
-  module _ (c v : ℕ) {u : ⊤} (e : container_test m c ≡ Ok u) where
+  module _ (c v : ℕ) (p : Stands c) where
     -- no label has a value above 65,535
     pub user-above : 65535 < v → memory_step m (ask (ask_user c v)) ≡ (m, says false)
     unfolding model_in settings_in
     user-above h =
-        let p = container-passed m c e in
         let x = part_in m (container_start c) in
-        let s : stands (model_in m).containers c ≡ true = ap (on (λ x. true)) p.1 in
-        user-says m formed c v x p.0 p.1
+        let s : stands (model_in m).containers c ≡ true = ap (on (λ x. true)) p.there in
+        user-says m formed c v x p.below p.there
         ∙ ap (λ t. (m, says t)) (carries-word 8 x (formed-labels m (formed-entries m formed) c s) (word_at m 0) v
         ∙ ap (λ t. t && (not (eqb v 0) && eqb (word_under (word_at m 0) x) (word_at m 0 * 65536 + v))) (lt-leb v 65535 h))
 
@@ -107,9 +112,8 @@ module _ (m : List ℕ) (formed : well_formed m ≡ true) where
         → memory_step m (ask (ask_user c v)) ≡ (m, says t)
     unfolding model_in settings_in
     user-answer t h s =
-        let p = container-passed m c e in
         let x = part_in m (container_start c) in
-        user-says m formed c v x p.0 p.1
+        user-says m formed c v x p.below p.there
         ∙ ap (λ t. (m, says t)) (ap (carries x) (sym (label_of (word_at m 0) v h)) ∙ sym s)
 
   -- ---- the whole registry

@@ -14,7 +14,7 @@ use model::{ContainerSlot, PolicySlot};
 pub fn reaches(memory: &[u64], from: ContainerSlot, to: ContainerSlot) -> Result<bool, Reason>
     ensures { (memory.now, reply_answer result) ≡ memory_step memory.now (ask (ask_reaches from.0 to.0)) }
 {
-    call_tests::test_memory(memory)?;
+    let memory = call_tests::formed_memory(memory)?;
     let a = from.0;
     let b = to.0;
     if store::CONTAINER_SLOTS <= b {
@@ -30,7 +30,7 @@ pub fn reaches(memory: &[u64], from: ContainerSlot, to: ContainerSlot) -> Result
 pub fn carries_user(memory: &[u64], slot: ContainerSlot, value: u64) -> Result<bool, Reason>
     ensures { (memory.now, reply_answer result) ≡ memory_step memory.now (ask (ask_user slot.0 value)) }
 {
-    call_tests::test_memory(memory)?;
+    let memory = call_tests::formed_memory(memory)?;
     call_tests::test_slot(memory, slot)?;
     if 65535 < value {
         return Ok(false);
@@ -43,7 +43,7 @@ pub fn carries_user(memory: &[u64], slot: ContainerSlot, value: u64) -> Result<b
 pub fn counts(memory: &[u64]) -> Result<Counts, Reason>
     ensures { (memory.now, counted_answer result) ≡ memory_step memory.now (ask counts) }
 {
-    call_tests::test_memory(memory)?;
+    let memory = call_tests::formed_memory(memory)?;
     Ok(Counts {
         containers: counts::count_standing::<ContainerSlot>(memory),
         policies: counts::count_standing::<PolicySlot>(memory),

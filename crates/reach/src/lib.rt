@@ -12,9 +12,10 @@ ghost use Rattle.reach.specs.Sides.{direction_set, opposite, SidesOf, Exchanged}
 use block::Direction;
 use rules::Sides;
 use sets::PolicySets;
+use store::Words;
 
 // The standing policies of a direction.
-pub fn of_direction(memory: &[u64], direction: Direction) -> [u64; 4]
+pub fn of_direction(memory: &Words, direction: Direction) -> [u64; 4]
     requires { EntriesFormed memory.now }
     ensures { bit_at result ≡ direction_set (model_in memory.now) direction }
 {
@@ -39,7 +40,7 @@ fn opposite(direction: Direction) -> Direction
 
 // What a row of the matrix is worked out from for egress, and a column for ingress, where `selected` has what each policy selects.
 pub fn sides_of(
-    memory: &[u64],
+    memory: &Words,
     standing: [u64; 4],
     selected: &[[u64; 4]; 128],
     direction: Direction,
@@ -82,7 +83,7 @@ pub struct Cross {
 }
 
 // Both by the rules, from each policy's two sets.
-pub fn cross_of(memory: &[u64], standing: [u64; 4], sets: &PolicySets, c: usize) -> Cross
+pub fn cross_of(memory: &Words, standing: [u64; 4], sets: &PolicySets, c: usize) -> Cross
     requires entries_formed { EntriesFormed memory.now × (bit_at standing ≡ stands (model_in memory.now).containers) }
     requires c_bound { (c < 256) × SetsOf (model_in memory.now) sets.now }
     ensures { (bit_at result.row ≡ matrix_bit (model_in memory.now) c) × (bit_at result.column ≡ (λ a. matrix_bit (model_in memory.now) a c)) }

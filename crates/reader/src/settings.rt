@@ -38,6 +38,7 @@ fn settings_fault(block: &[u8; 512]) -> Option<usize>
 }
 
 // The test of a block of settings, all but its length.
+#[tactic(auto, unfolding(block::specs::Reader::settings_checks))]
 fn settings_test(block: &[u8; 512]) -> Result<(), Refusal>
     ensures { result ≡ first_refusal (settings_checks block.now) }
 {
@@ -51,6 +52,7 @@ fn settings_test(block: &[u8; 512]) -> Result<(), Refusal>
 }
 
 // The block of an opening.
+#[tactic(auto, unfolding(block::specs::Reader::read_settings, block::specs::Reader::settings_checks, block::specs::Reader::settings_said, block::specs::Reading::settings_words))]
 pub fn read_settings(block: &[u8]) -> Result<Settings, Refusal>
     ensures { result ≡ read_words (read_settings block.now) }
 {

@@ -1,4 +1,4 @@
--- What a call answers, as its number; and that the counts fit.
+-- What the counts can be, which the call for C puts side by side in one number; and how much was put, as a number.
 use mathlib.Core.Path.{◌≡◌, refl, sym, ap, ◌∙◌}
 use mathlib.Core.Bool.{Bool, true, false}
 use mathlib.Core.List.{List}
@@ -13,14 +13,8 @@ use Rattle.steps.specs.MemoryStep.{memory_step}
 use Rattle.formed.specs.Registry.{model_in, bits_in, well_formed}
 use Rattle.store.specs.Layout.{memory_words}
 use Rattle.steps.proofs.Outcomes.{step-size, step-formed, counts-answers}
-use Rattle.codes.specs.Codes.{code_of, coded_step}
+use Rattle.codes.specs.Codes.{code_of}
 use Rattle.codes.proofs.Few.{containers-few, policies-few, pairs-fit}
-
--- from the register's own answer a, which is the number r
-pub coded : (m e : List ℕ) (call : Call) (r : ℕ) (a : Answer) → ◌≡◌ {A = List ℕ × Answer} (e, a) (memory_step m call) → r ≡ code_of a
-    → ◌≡◌ {A = List ℕ × ℕ} (e, r) (coded_step m call)
-unfolding coded_step
-coded m e call r a h k = ap (λ n. (e, n)) k ∙ ap (λ s. (s.0, code_of s.1)) h
 
 -- how much was put is the number of an answer that says what was
 pub put-coded : (m : List ℕ) (call : Call) (a b : Answer) (n : ℕ) → ◌≡◌ {A = List ℕ × Answer} (m, a) (memory_step m call)

@@ -1,20 +1,21 @@
 // The calls as C, Rust and others make them, which `bihokura_c` exports: numbers and slices only. An answer is one number: the
 // refusal's number in the top byte, 0 where the call was accepted, and below it the slot, 0 or 1, the finding, how many findings
 // were put into a list, the counts, or how many bytes were written.
-#![tactic(auto)]
+// Kept: the C interface: numbers for slots, kinds and values, and the names that `bihokura_c` exports.
+#![tactic(auto, unfolding(codes::specs::Codes::coded_step))]
 
-ghost use Rattle.std.specs.Prelude.{◌≡◌, length};
+ghost use Rattle.std.specs.Prelude.{◌≡◌, ◌≤◌, length};
 ghost use Rattle.buffer.specs.Buffer.{overwritten};
 ghost use Rattle.model.specs.Calls.{open_with, change, admit, admit_batch, remove_container, remove_policy, rebuild, ask, ask_reaches, ask_user, next_finding, list_findings, counts, audit, write, written, tally_left};
 ghost use Rattle.store.specs.Layout.{memory_words};
 ghost use Rattle.steps.specs.MemoryStep.{memory_step};
 ghost use Rattle.answers.specs.Answers.{outcome_answer, reply_answer};
-ghost use Rattle.codes.specs.Codes.{code_of, coded_step};
+ghost use Rattle.codes.specs.Codes.{code_of, coded_step, counts_code};
 
 use block::Reason;
 use entries::Slot;
 use findings::Cursor;
-use registry::{Admitted, Tally};
+use registry::{Admitted, Counts, Tally};
 
 // Kept: the C interface has 64-bit numbers for slots and counts, and no `From` goes between those and `usize`.
 fn slot<S: Slot>(number: u64) -> S
@@ -93,14 +94,12 @@ pub fn bihokura_admit_batch(
     }
 }
 
-// Kept: the C interface has a name for each table.
 pub fn bihokura_remove_container(memory: &mut [u64], number: u64) -> u64
     ensures { (memory.new, result) ≡ coded_step memory.old (change (remove_container number)) }
 {
     outcome_code(registry::remove_container(memory, slot(number)))
 }
 
-// Kept: as above.
 pub fn bihokura_remove_policy(memory: &mut [u64], number: u64) -> u64
     ensures { (memory.new, result) ≡ coded_step memory.old (change (remove_policy number)) }
 {
@@ -119,7 +118,6 @@ pub fn bihokura_carries_user(memory: &[u64], number: u64, value: u64) -> u64
     reply_code(registry::carries_user(memory, slot(number), value))
 }
 
-// Kept: C hands any number for a kind.
 pub fn bihokura_next_finding(memory: &[u64], kind: u16, a: u16, b: u16) -> u64
     ensures { (memory.now, result) ≡ coded_step memory.now (ask (next_finding (record { kind = kind; a = a; b = b }))) }
 {
@@ -132,7 +130,6 @@ pub fn bihokura_next_finding(memory: &[u64], kind: u16, a: u16, b: u16) -> u64
     }
 }
 
-// Kept: as above.
 pub fn bihokura_findings(memory: &[u64], kind: u16, a: u16, b: u16, list: &mut [u64]) -> u64
     ensures result_value { (memory.now, result) ≡ coded_step memory.now (ask (list_findings (record { kind = kind; a = a; b = b }) (length list.old))) }
     ensures list_after { list.new ≡ overwritten list.old (written (memory_step memory.now (ask (list_findings (record { kind = kind; a = a; b = b }) (length list.old)))).1) }
@@ -143,11 +140,20 @@ pub fn bihokura_findings(memory: &[u64], kind: u16, a: u16, b: u16, list: &mut [
     }
 }
 
+// The counts side by side in one number: each is small enough.
+#[tactic(auto, unfolding(codes::specs::Codes::counts_code))]
+fn packed(counts: Counts) -> u64
+    requires { (counts.containers ≤ 256) × (counts.policies ≤ 128) × (counts.pairs ≤ 65536) }
+    ensures { result ≡ counts_code counts.containers counts.policies counts.pairs }
+{
+    counts.containers + counts.policies * 65536 + counts.pairs * 4294967296
+}
+
 pub fn bihokura_counts(memory: &[u64]) -> u64
     ensures { (memory.now, result) ≡ coded_step memory.now (ask counts) }
 {
     match registry::counts(memory) {
-        Ok(counts) => counts.containers + counts.policies * 65536 + counts.pairs * 4294967296,
+        Ok(counts) => packed(counts),
         Err(reason) => codes::refused(reason),
     }
 }

@@ -29,14 +29,14 @@ pub fn finished(state: State) -> bool
 #[tactic(auto, unfolding(sheets::specs::Pieces::take_one, sheets::specs::Pieces::take_with))]
 fn take_one(
     memory: &mut [u64],
-    block: &mut [u8],
+    block: &mut [u8; 512],
     piece: &[u8],
     ended: bool,
     out: &mut [u8],
     n: u64,
     f: usize,
 ) -> Stepped
-    requires { (length block.old ≡ 512) × (f < 512) × (128 ≤ length out.old) }
+    requires { (f < 512) × (128 ≤ length out.old) }
     ensures does { Does (take_one memory.old block.old piece.now ended n f) memory.new block.new out.old out.new result }
     ensures used_in_bounds { result.used ≤ length piece.now }
 {
@@ -67,14 +67,14 @@ fn take_one(
 #[tactic(auto, unfolding(sheets::specs::Pieces::take_step))]
 fn take(
     memory: &mut [u64],
-    block: &mut [u8],
+    block: &mut [u8; 512],
     piece: &[u8],
     ended: bool,
     out: &mut [u8],
     n: u64,
     f: usize,
 ) -> Stepped
-    requires { (length block.old ≡ 512) × (f < 512) × (128 ≤ length out.old) }
+    requires { (f < 512) × (128 ≤ length out.old) }
     ensures does { Does (take_step memory.old block.old piece.now ended (length out.old) n f) memory.new block.new out.old out.new result }
     ensures used_in_bounds { result.used ≤ length piece.now }
 {
@@ -93,17 +93,18 @@ fn take(
 }
 
 // Takes a piece of the input, or a part of it, or puts some text. `ended` says that the input ends with this piece; what was not used
-// of it is to be lent again. Of whole blocks a step takes all, at most 128, whose lines find room, and has put the line of each that was refused.
+// of it is to be lent again. Of whole blocks a step takes all, at most 128, whose lines find room, and has put the line of each that was
+// refused.
 #[tactic(auto, unfolding(sheets::specs::Step::report_step))]
 pub fn step(
     memory: &mut [u64],
-    block: &mut [u8],
+    block: &mut [u8; 512],
     piece: &[u8],
     ended: bool,
     out: &mut [u8],
     state: State,
 ) -> Stepped
-    requires { (length block.old ≡ 512) × (started_in state < 512) × (128 ≤ length out.old) }
+    requires { (started_in state < 512) × (128 ≤ length out.old) }
     ensures does { Does (report_step memory.old block.old piece.now ended (length out.old) state) memory.new block.new out.old out.new result }
     ensures used_in_bounds { (result.used ≤ length piece.now) × (result.put ≤ length out.new) × (started_in result.state < 512) }
     ensures state_bound { finished_in state ≡ false → Fed piece.now ended → ahead result.state < ahead state }

@@ -27,7 +27,6 @@ impl Iterator for Members {
 
     ghost remaining = { λ s. at_most (256 - s.from) };
 
-    // Kept: the name is the iterator's.
     #[inline]
     fn next(&mut self) -> Option<usize> {
         let number = row_reads::next_from(self.row, self.from)?;
@@ -47,7 +46,6 @@ impl Iterator for Bits {
 
     ghost remaining = { λ s. at_most s.0 };
 
-    // Kept: the name is the iterator's.
     #[inline]
     fn next(&mut self) -> Option<u8> {
         if self.0 == 0 {

@@ -15,7 +15,8 @@ pub fn count(row: [u64; 4]) -> u32
 }
 
 // The lowest number of the row at or above i.
-// Kept: the `as`, since no `From` makes a `usize` of the `u32` that `trailing_zeros` gives.
+// Kept: the `as`, since no `From` makes a `usize` of the `u32` that `trailing_zeros` gives; and a row beside a number, which is another at
+// each call.
 pub fn next_from(row: [u64; 4], i: usize) -> Option<usize>
     ensures { result ≡ lowest_from (bit_at row) i }
 {

@@ -1,2 +1,3 @@
 -- Laws of `rules`.
 pub mod Unions
+mod ToCome

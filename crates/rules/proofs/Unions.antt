@@ -1,27 +1,110 @@
 -- Laws of unions over the policies, and of the rules over sets.
-use mathlib.Core.Path.{◌≡◌, refl, sym, ap, ◌∙◌, fun_ext}
-use mathlib.Core.Bool.{Bool, true, false, not, ◌&&◌, ◌||◌, and-true, and_assoc, and_comm, and-or_distrib_left}
+use mathlib.Core.Path.{◌≡◌, refl, sym, ap, ap₂, ◌∙◌, fun_ext}
+use mathlib.Core.Bool.{Bool, true, false, not, ◌&&◌, ◌||◌, and-true, and-false, or-true, or-false, and_assoc, and_comm, or_assoc, or_comm, and-or_distrib_left, true≢false}
 use mathlib.Core.List.{List}
-use Prim.Native.Nat.{ℕ, ◌+◌}
+use Prim.Native.Nat.{ℕ, zero, suc, ◌+◌, ◌<◌}
+use native.Mathlib.Decide.{ℕ_discrete}
+use native.Mathlib.Omega.{arith}
+use lib.Dec.{eqb}
 use Rattle.std.specs.Prelude.{Option, Some, None, unwrap_or}
 use Rattle.bitrow.specs.Bit.{bit_at}
-use Rattle.bitrow.specs.Set.{nothing, meet, join, less, some}
-use Rattle.bitrow.proofs.Tests.{some-zero, some_next, some-skip, some-take, some-cong}
+use Rattle.bitrow.specs.Set.{nothing, meet, join, less, under, remove, some}
+use Rattle.bitrow.proofs.Sets.{point, nothing-at, meet-at, under-in, remove-there, remove-other, remove_absent, nothing-join, join-nothing}
+use Rattle.bitrow.proofs.Tests.{some-zero, some_next, some-skip, some-cong}
 use Rattle.rules.specs.Lets.{having, union, Picks, picked, sets_let, sets_let_by, line}
 
--- ---- a union, policy by policy
+and-swap : (a b c : Bool) → ((a && b) && c) ≡ ((a && c) && b)
+and-swap true b c = and_comm b c
+and-swap false b c = refl
 
-pub union-none : (t : ℕ → Bool) (s : ℕ → ℕ → Bool) → union t s 0 ≡ nothing
-unfolding union nothing
-union-none t s = fun_ext (λ j. some-zero (having t s j))
+-- ---- a set with one number taken out
 
-pub union-skip : (t : ℕ → Bool) (s : ℕ → ℕ → Bool) (n : ℕ) → t n ≡ false → union t s (n + 1) ≡ union t s n
-unfolding union having
-union-skip t s n e = fun_ext (λ j. some-skip (having t s j) n (rw e))
+some-none : (n : ℕ) → some nothing n ≡ false
+some-none zero = some-zero nothing
+some-none (suc n) = let e : suc n ≡ n + 1 = omega arith in ap (some nothing) e ∙ some-skip nothing n (nothing-at n) ∙ some-none n
 
-pub union-take : (t : ℕ → Bool) (s : ℕ → ℕ → Bool) (n : ℕ) → t n ≡ true → union t s (n + 1) ≡ join (union t s n) (s n)
-unfolding union having join
-union-take t s n e = fun_ext (λ j. some_next (having t s j) n ∙ rw e)
+some-out : (s : ℕ → Bool) (n q : ℕ) → q < n → some s n ≡ (s q || some (remove q s) n)
+some-out s zero q h = absurd (omega arith)
+some-out s (suc n) q h = let e : suc n ≡ n + 1 = omega arith in rw e (go (some-out s n q) (ℕ_discrete q n))
+  where
+    go : (q < n → some s n ≡ (s q || some (remove q s) n)) → Dec (q ≡ n) → some s (n + 1) ≡ (s q || some (remove q s) (n + 1))
+    go ih (yes p) =
+        some_next s n ∙ or_comm (some s n) (s n)
+        ∙ sym (ap₂ ◌||◌ (ap s p) (some-skip (remove q s) n (ap (remove q s) (sym p) ∙ remove-there q s)
+        ∙ some-cong (remove q s) s n (λ j l. remove-other q s j (λ k. absurd (omega arith)))))
+    go ih (no m) =
+        some_next s n ∙ ap (λ t. t || s n) (ih (omega arith)) ∙ or_assoc (s q) (some (remove q s) n) (s n)
+        ∙ sym (ap (λ t. s q || t) (some_next (remove q s) n ∙ ap (λ t. some (remove q s) n || t) (remove-other q s n (λ k. m (sym k)))))
+
+module _ (s : ℕ → ℕ → Bool) (a : ℕ) where
+  having-none : having nothing s a ≡ nothing
+  unfolding having nothing
+  having-none = refl
+
+  having-under : (t : ℕ → Bool) (n : ℕ) → having (meet t (under n)) s a ≡ meet (having t s a) (under n)
+  unfolding having meet
+  having-under t n = fun_ext (λ q. and-swap (t q) (under n q) (s q a))
+
+  having-out : (t : ℕ → Bool) (q : ℕ) → having (remove q t) s a ≡ remove q (having t s a)
+  unfolding having remove
+  having-out t q = fun_ext (λ p. and_assoc (not (eqb p q)) (t p) (s p a))
+
+  having-yes : (t : ℕ → Bool) (q : ℕ) → t q ≡ true → s q a ≡ true → having t s a q ≡ true
+  unfolding having
+  having-yes t q e f = ap₂ ◌&&◌ e f
+
+  having-of : (t : ℕ → Bool) (q : ℕ) → t q ≡ true → having t s a q ≡ s q a
+  unfolding having
+  having-of t q e = ap (λ x. x && s q a) e
+
+  having-no : (t : ℕ → Bool) (q : ℕ) → s q a ≡ false → having t s a q ≡ false
+  unfolding having
+  having-no t q f = ap (λ x. t q && x) f ∙ and-false (t q)
+
+-- ---- a union, policy by policy: what is joined, and the sets of those of l that are still to come, make the union over t
+
+pub record Joining (t : ℕ → Bool) (u : ℕ → ℕ → Bool) (l joined : ℕ → Bool) : Type 0 where
+  pub whole : join joined (union l u 128) ≡ union t u 128
+
+module _ {t : ℕ → Bool} {u : ℕ → ℕ → Bool} where
+  pub joining_none : {l joined : ℕ → Bool} → l ≡ meet t (under 128) → joined ≡ nothing → Joining t u l joined
+  unfolding union
+  joining_none e f = record {
+    whole = rw (e, f) (nothing-join _ ∙ fun_ext (λ j. some-cong _ _ 128 (λ q h. point (having-under u j t 128) q ∙ meet-at (having t u j) (under 128) q
+        ∙ ap (λ x. having t u j q && x) (under-in 128 q h) ∙ and-true (having t u j q))));
+  }
+
+  module _ {l joined : ℕ → Bool} (g : Joining t u l joined) where
+    pub joining-one : {q : ℕ} {next all : ℕ → Bool} → q < 128 → l q ≡ true → next ≡ remove q l → all ≡ join joined (u q) → Joining t u next all
+    unfolding union join
+    joining-one {q} h e d f = record {
+      whole = rw (d, f) (fun_ext (λ j. or_assoc (joined j) (u q j) (some (having (remove q l) u j) 128) ∙ ap (λ x. joined j || x) (sym (out j)) ∙ point g.whole j));
+    }
+      where
+        out : (j : ℕ) → some (having l u j) 128 ≡ (u q j || some (having (remove q l) u j) 128)
+        out j = some-out (having l u j) 128 q h ∙ ap₂ ◌||◌ (having-of u j l q e) (ap (λ (s : ℕ → Bool). some s 128) (sym (having-out u j l q)))
+
+    pub joining-other : {next : ℕ → Bool} → next ≡ l → Joining t u next joined
+    joining-other e = record { whole = rw e g.whole }
+
+    pub joining-all : l ≡ nothing → joined ≡ union t u 128
+    unfolding union
+    joining-all e = sym (join-nothing joined) ∙ ap (join joined) (sym (rw e (fun_ext (λ j. ap (λ (s : ℕ → Bool). some s 128) (having-none u j) ∙ some-none 128 ∙ sym (nothing-at j))))) ∙ g.whole
+
+-- of those whose set in s has a
+module _ (t : ℕ → Bool) (s u : ℕ → ℕ → Bool) (a : ℕ) where
+  pub having_begun : {l joined : ℕ → Bool} → l ≡ meet t (under 128) → joined ≡ nothing → Joining (having t s a) u (having l s a) joined
+  having_begun e f = joining_none (ap (λ (x : ℕ → Bool). having x s a) e ∙ having-under s a t 128) f
+
+  module _ (l : ℕ → Bool) {joined : ℕ → Bool} (g : Joining (having t s a) u (having l s a) joined) {q : ℕ} {next : ℕ → Bool} (d : next ≡ remove q l) where
+    pub having-take : {all : ℕ → Bool} → q < 128 → l q ≡ true → s q a ≡ true → all ≡ join joined (u q) → Joining (having t s a) u (having next s a) all
+    having-take h e f j = joining-one g h (having-yes s a l q e f) (ap (λ (x : ℕ → Bool). having x s a) d ∙ having-out s a l q) j
+
+    pub having-skip : s q a ≡ false → Joining (having t s a) u (having next s a) joined
+    having-skip f = joining-other g (ap (λ (x : ℕ → Bool). having x s a) d ∙ having-out s a l q ∙ remove_absent q (having l s a) (having-no s a l q f))
+
+  pub having_ended : (l : ℕ → Bool) {joined : ℕ → Bool} → Joining (having t s a) u (having l s a) joined → l ≡ nothing → joined ≡ union (having t s a) u 128
+  having_ended l g e = joining-all g (ap (λ (x : ℕ → Bool). having x s a) e ∙ having-none s a)
 
 -- ---- what is picked, policy by policy
 
@@ -29,28 +112,44 @@ pub picked-or : (o : Option (List ℕ)) (d r : List ℕ) → bit_at d ≡ nothin
 picked-or None d r e f = ap bit_at f ∙ e
 picked-or (Some x) d r e f = ap bit_at f
 
+pub record Picking (t : ℕ → Bool) (s u : ℕ → ℕ → Bool) (a : ℕ) (l : ℕ → Bool) (any : Bool) (joined : ℕ → Bool) : Type 0 where
+  pub more : (any || some (having l s a) 128) ≡ some (having t s a) 128
+  pub rest : Joining (having t s a) u (having l s a) joined
+  pub empty : any ≡ false → joined ≡ nothing
+
 module _ {t : ℕ → Bool} {s u : ℕ → ℕ → Bool} {a : ℕ} where
-  pub pick-none : {y : ℕ → Bool} → y ≡ nothing → Picks 0 t s u a false y
-  unfolding union
-  pick-none e = record { any = sym (some-zero (having t s a)); joined = e ∙ sym (union-none (having t s a) u) }
+  pub pick_none : {l joined : ℕ → Bool} → l ≡ meet t (under 128) → joined ≡ nothing → Picking t s u a l false joined
+  pick_none e f = record {
+    more = some-cong _ _ 128 (λ q h. point (ap (λ (x : ℕ → Bool). having x s a) e ∙ having-under s a t 128) q ∙ meet-at (having t s a) (under 128) q
+        ∙ ap (λ x. having t s a q && x) (under-in 128 q h) ∙ and-true (having t s a q));
+    rest = having_begun t s u a e f;
+    empty = λ n. f;
+  }
 
-  module _ {x : Bool} {y : ℕ → Bool} {p : ℕ} (g : Picks p t s u a x y) where
-    pub pick-skip : (t p && s p a) ≡ false → Picks (p + 1) t s u a x y
-    unfolding union having
-    pick-skip e = record { any = g.any ∙ sym (some-skip (having t s a) p e); joined = g.joined ∙ sym (union-skip (having t s a) u p e) }
+  module _ {l joined : ℕ → Bool} {any : Bool} (g : Picking t s u a l any joined) where
+    module _ {q : ℕ} {next : ℕ → Bool} (h : q < 128) (e : l q ≡ true) (d : next ≡ remove q l) where
+      pub pick-take : {all : ℕ → Bool} → s q a ≡ true → all ≡ join joined (u q) → Picking t s u a next true all
+      pick-take f j = record {
+        more = sym (or-true any) ∙ ap (λ x. any || x) (sym (some-out (having l s a) 128 q h ∙ ap (λ x. x || some (remove q (having l s a)) 128) (having-yes s a l q e f))) ∙ g.more;
+        rest = having-take t s u a l g.rest d h e f j;
+        empty = λ n. absurd (true≢false n);
+      }
 
-    pub pick-take : {z : ℕ → Bool} → (t p && s p a) ≡ true → z ≡ join y (u p) → Picks (p + 1) t s u a true z
-    unfolding union having
-    pick-take e f = record {
-      any = sym (some-take (having t s a) p e);
-      joined = f ∙ ap (λ (x : ℕ → Bool). join x (u p)) g.joined ∙ sym (union-take (having t s a) u p e);
+      pub pick-skip : s q a ≡ false → Picking t s u a next any joined
+      pick-skip f = record {
+        more = ap (λ (x : ℕ → Bool). any || some x 128) (ap (λ (x : ℕ → Bool). having x s a) d ∙ having-out s a l q ∙ remove_absent q (having l s a) (having-no s a l q f)) ∙ g.more;
+        rest = having-skip t s u a l g.rest d f;
+        empty = g.empty;
+      }
+
+    pub picked-all : l ≡ nothing → Picks 128 t s u a any joined
+    unfolding union
+    picked-all e = record {
+      any = sym (or-false any) ∙ ap (λ x. any || x) (sym (ap (λ (x : ℕ → Bool). some (having x s a) 128) e ∙ ap (λ (x : ℕ → Bool). some x 128) (having-none s a) ∙ some-none 128)) ∙ g.more;
+      joined = having_ended t s u a l g.rest e;
     }
 
 -- ---- the rules over sets
-
-and-swap : (a b c : Bool) → ((a && b) && c) ≡ ((a && c) && b)
-and-swap true b c = and_comm b c
-and-swap false b c = refl
 
 module _ {n : ℕ} {w : ℕ → Bool} {sel alw : ℕ → ℕ → Bool} {a : ℕ} {x : Bool} {u : ℕ → Bool} (s : ℕ → Bool) where
   -- some policy selects a: what those that do allow

@@ -1,2 +1,3 @@
 -- What the contracts of `rules` cite.
 pub mod Lets
+pub mod Policies

@@ -7,7 +7,7 @@ use Rattle.block.specs.Bytes.{checksum}
 use Rattle.block.specs.Written.{number_bytes}
 use Rattle.block.proofs.Weights.{same-weight}
 use Rattle.samples.specs.declared.Shape.{Shape}
-use Rattle.samples.specs.Samples.{byte_of, rising_labels, front, body, block_of_shape}
+use Rattle.samples.specs.Samples.{rising_labels, front, body, block_of_shape}
 
 -- ---- stores
 
@@ -39,7 +39,7 @@ rising-next b d e key k at a p w =
     ∙ ap (λ (n : ℕ). sets b 4 (rising_labels key n)) (sym (add-one k))
 
 -- the labels after the first four bytes
-pub front-sets : (s : Shape) (b d e : List ℕ) → d ≡ sets b 0 (byte_of s.kind ∷ s.one ∷ s.two ∷ s.three ∷ []) → e ≡ sets d 4 (rising_labels s.key (min s.labels 9)) → e ≡ sets b 0 (front s)
+pub front-sets : (s : Shape) (b d e : List ℕ) → d ≡ sets b 0 (s.kind ∷ s.one ∷ s.two ∷ s.three ∷ []) → e ≡ sets d 4 (rising_labels s.key (min s.labels 9)) → e ≡ sets b 0 (front s)
 unfolding front
 front-sets s b d e p q = q ∙ ap (λ (l : List ℕ). sets l 4 (rising_labels s.key (min s.labels 9))) p
 

@@ -2,15 +2,7 @@
 use Rattle.std.specs.Prelude.{ℕ, zero, suc, ◌+◌, ◌-◌, ◌%◌, min, List, [], ◌∷◌, ◌++◌, length, replicate, slice_set}
 use Rattle.block.specs.Bytes.{checksum}
 use Rattle.block.specs.Written.{number_bytes}
-use Rattle.samples.specs.declared.Kind.{Kind}
-use Rattle.samples.specs.declared.Kind.TheVariants.{Settings, Container, Policy}
 use Rattle.samples.specs.declared.Shape.{Shape}
-
--- S, C or P
-abbrev pub byte_of : Kind → ℕ
-byte_of Settings = 83
-byte_of Container = 67
-byte_of Policy = 80
 
 -- the bytes of n labels with rising keys, from `key` on, and value 1
 unfoldable pub rising_labels : ℕ → ℕ → List ℕ
@@ -19,7 +11,7 @@ rising_labels key (suc n) = rising_labels key n ++ 0 ∷ (key + n) % 256 ∷ 0 �
 
 -- the first four bytes, then nine labels at most
 unfoldable pub front : Shape → List ℕ
-front s = byte_of s.kind ∷ s.one ∷ s.two ∷ s.three ∷ rising_labels s.key (min s.labels 9)
+front s = s.kind ∷ s.one ∷ s.two ∷ s.three ∷ rising_labels s.key (min s.labels 9)
 
 -- bytes 0 to 509: the front, then zeros, with one byte put; put past the end, it changes none
 unfoldable pub body : Shape → List ℕ

@@ -1,38 +1,18 @@
 // Blocks of 512 bytes, made and sealed.
 #![tactic(auto)]
 
-ghost use Rattle.std.specs.Prelude.{◌≡◌, ◌+◌, ◌%◌, ◌≤◌, min, [], ◌∷◌, length, slice_set};
+ghost use Rattle.std.specs.Prelude.{◌≡◌, ◌+◌, ◌%◌, ◌≤◌, min, length, slice_set};
 ghost use Rattle.std.proofs.lemmas.List.Edits.{sets};
 ghost use Rattle.block.specs.Bytes.{checksum};
 ghost use Rattle.block.specs.Written.{number_bytes};
-ghost use Rattle.samples.specs.declared.Kind.TheVariants.{Settings, Container, Policy};
-ghost use Rattle.samples.specs.Samples.{byte_of, rising_labels, front, block_of_shape};
-
-// What a block holds, by its first byte.
-#[derive(Clone, Copy)]
-pub enum Kind {
-    Settings,
-    Container,
-    Policy,
-}
-
-impl Kind {
-    pub fn byte(self) -> u8
-        ensures { result ≡ byte_of self }
-    {
-        match self {
-            Kind::Settings => b'S',
-            Kind::Container => b'C',
-            Kind::Policy => b'P',
-        }
-    }
-}
+ghost use Rattle.samples.specs.Samples.{rising_labels, front, block_of_shape};
 
 // What a block is made of: its first four bytes, then nine labels at most with rising keys and value 1, then one byte put
 // anywhere before byte 510, and by how much the stored checksum is to be above the computed one.
+// Kept: a byte for the kind, and not one of three: a block that is wrong on purpose may begin with any.
 #[derive(Clone, Copy)]
 pub struct Shape {
-    pub kind: Kind,
+    pub kind: u8,
     pub one: u8,
     pub two: u8,
     pub three: u8,
@@ -45,10 +25,10 @@ pub struct Shape {
 
 // Settings with this user key and this system key, of value 9.
 pub fn settings(user: u8, system: u8) -> Shape
-    ensures { result ≡ record { kind = Settings; one = user; two = system; three = 0; labels = 0; key = 0; at = 5; byte = 9; above = 0 } }
+    ensures { result ≡ record { kind = 83; one = user; two = system; three = 0; labels = 0; key = 0; at = 5; byte = 9; above = 0 } }
 {
     Shape {
-        kind: Kind::Settings,
+        kind: b'S',
         one: user,
         two: system,
         three: 0,
@@ -63,10 +43,10 @@ pub fn settings(user: u8, system: u8) -> Shape
 // A container with so many labels, the first with this key.
 // Kept: a container says its labels alone, a policy a direction and two parts, and so each has a function of its own.
 pub fn container(labels: u8, key: u8) -> Shape
-    ensures { result ≡ record { kind = Container; one = labels; two = 0; three = 0; labels = labels; key = key; at = 0; byte = 67; above = 0 } }
+    ensures { result ≡ record { kind = 67; one = labels; two = 0; three = 0; labels = labels; key = key; at = 0; byte = 67; above = 0 } }
 {
     Shape {
-        kind: Kind::Container,
+        kind: b'C',
         one: labels,
         two: 0,
         three: 0,
@@ -81,10 +61,10 @@ pub fn container(labels: u8, key: u8) -> Shape
 // A policy of this direction with so many select and allow labels, the first of all with this key.
 // Kept: a direction that no policy has is tried too, and so the parameter is a byte.
 pub fn policy(direction: u8, select: u8, allow: u8, key: u8) -> Shape
-    ensures { result ≡ record { kind = Policy; one = direction; two = select; three = allow; labels = (select + allow) % 256; key = key; at = 0; byte = 80; above = 0 } }
+    ensures { result ≡ record { kind = 80; one = direction; two = select; three = allow; labels = (select + allow) % 256; key = key; at = 0; byte = 80; above = 0 } }
 {
     Shape {
-        kind: Kind::Policy,
+        kind: b'P',
         one: direction,
         two: select,
         three: allow,
@@ -126,7 +106,7 @@ fn put_body(body: &mut [u8], shape: Shape)
     requires { length body.old ≡ 510 }
     ensures { body.new ≡ slice_set (sets body.old 0 (front shape)) shape.at shape.byte }
 {
-    body[..4].copy_from_slice(&[shape.kind.byte(), shape.one, shape.two, shape.three]);
+    body[..4].copy_from_slice(&[shape.kind, shape.one, shape.two, shape.three]);
     put_rising_labels(body, shape.labels, shape.key);
     if shape.at < 510 {
         body[shape.at] = shape.byte;

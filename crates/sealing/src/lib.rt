@@ -6,12 +6,12 @@ ghost use Rattle.block.specs.Written.{number_bytes, sealed};
 ghost use Rattle.sealing.specs.Sealing.{Summed, Lengthens};
 
 // The two bytes of a number, the high one first.
-// Kept: a cast that loses no bit, as is proved, costs nothing; `try_from` would test each number again.
+// Kept: the cast loses no bit, as is proved, and costs nothing; a test of the number, as `try_from` makes, would never fail here.
 fn two_bytes(number: u64) -> [u8; 2]
     requires { number ≤ 65535 }
     ensures { result ≡ number_bytes number }
 {
-    [(number / 256) as u8, (number % 256) as u8]
+    (number as u16).to_be_bytes()
 }
 
 // A number of two bytes, the high one first, put behind the first `at` bytes. Answers the sum with these two.
@@ -29,7 +29,7 @@ pub fn put_number(block: &mut [u8], at: usize, number: u64, sum: u64) -> u64
 }
 
 // Zeros behind the first `at` bytes, then the checksum. Zeros add nothing to the sum.
-// Kept: the block with a position: that where its fields end.
+// Kept: the block with a position, as at `put_number`: where its fields end is known where the last was put.
 pub fn seal(block: &mut [u8], at: usize, sum: u64)
     requires { Summed block.old at sum }
     ensures { block.new ≡ sealed (take at block.old) }

@@ -9,6 +9,7 @@ ghost use Rattle.label_table.specs.LabelRows.{LabelRows};
 ghost use Rattle.sets.specs.Sets.{RowsAre, EmptyBut, part_set, PartsWithin};
 
 use label_table::LabelTable;
+use store::Words;
 
 // "Two sets for each policy: the containers it selects and those it allows."
 #[derive(Drop)]
@@ -19,8 +20,8 @@ pub struct PolicySets {
 
 // Of the candidates, those that the part at an offset of policy q's slot matches; none where the slot is free.
 // Kept: `PartsWithin` in three contracts ties two arguments, the memory and the offset; a type that has both would lend the memory again
-// beside the one that the other clauses are of, and is no plainer.
-pub fn part_row(memory: &[u64], q: usize, offset: usize, candidates: [u64; 4]) -> [u64; 4]
+// beside the one that the other clauses are of, and is no plainer. And an offset in place of a `Part`: what is promised is of any offset.
+pub fn part_row(memory: &Words, q: usize, offset: usize, candidates: [u64; 4]) -> [u64; 4]
     requires { EntriesFormed memory.now × (q < 128) × PartsWithin memory.now offset }
     ensures { bit_at result ≡ part_set memory.now (bit_at candidates) offset q }
 {
@@ -33,7 +34,7 @@ pub fn part_row(memory: &[u64], q: usize, offset: usize, candidates: [u64; 4]) -
 
 // The same by the label rows.
 fn part_by_labels(
-    memory: &[u64],
+    memory: &Words,
     table: &LabelTable,
     q: usize,
     offset: usize,
@@ -53,7 +54,7 @@ fn part_by_labels(
 pub fn fill(
     rows: &mut [[u64; 4]; 128],
     known: Option<usize>,
-    memory: &[u64],
+    memory: &Words,
     table: &LabelTable,
     offset: usize,
     candidates: [u64; 4],

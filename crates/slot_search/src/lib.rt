@@ -4,14 +4,15 @@
 ghost use Rattle.std.specs.Prelude.{◌≡◌, ◌-◌};
 ghost use Rattle.bitrow.specs.Set.{first_of};
 ghost use Rattle.model.specs.Table.{lowest_free};
-ghost use Rattle.store.specs.Layout.{Whole};
 ghost use Rattle.entries.specs.Entries.{free_in, SlotsWithin, NoneFree, slot_found};
 
 use entries::Slot;
+use store::Words;
 
 // This slot if it is free, else the search among the rest. A slot of `words` words is free if its first word is 0.
-// Kept: the memory with the place of a table: a slice of the table's words would be no plainer, since each clause would have to be carried
-// back to the memory whose table it is.
+// Kept: a search that calls itself is a rule of the project: document 01 has it first written so, and document 02, Note 4, makes it a loop
+// in a landing by itself. And the memory with the place of a table: a slice of the table's words would be no plainer, since each clause
+// would have to be carried back to the memory whose table it is.
 fn lowest_free(
     memory: &[u64],
     start: usize,
@@ -33,8 +34,8 @@ fn lowest_free(
 
 // The lowest free slot of a table, where none below `from` is free.
 // Kept: `from` is the number of a slot, and no position in the memory: no slice begins at it.
-pub fn free_from<S: Slot>(memory: &[u64], from: usize) -> Option<S>
-    requires { Whole memory.now × NoneFree (S.table memory.now) from }
+pub fn free_from<S: Slot>(memory: &Words, from: usize) -> Option<S>
+    requires { NoneFree (S.table memory.now) from }
     ensures { result ≡ slot_found S.at (lowest_free (S.table memory.now)) }
 {
     let i = lowest_free(memory, S::START, S::WORDS, from, S::SLOTS)?;
@@ -42,8 +43,7 @@ pub fn free_from<S: Slot>(memory: &[u64], from: usize) -> Option<S>
 }
 
 // The lowest free slot of a table.
-pub fn free_slot<S: Slot>(memory: &[u64]) -> Option<S>
-    requires { Whole memory.now }
+pub fn free_slot<S: Slot>(memory: &Words) -> Option<S>
     ensures { result ≡ slot_found S.at (lowest_free (S.table memory.now)) }
 {
     free_from(memory, 0)

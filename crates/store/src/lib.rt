@@ -49,6 +49,9 @@ pub const ROW_WORDS: usize = 4;
 
 pub const WORDS: usize = ROWS + ROW_COUNT * ROW_WORDS;
 
+// The memory of a registry, once a call has seen that it is as long.
+pub type Words = [u64; WORDS];
+
 // A table of rows: row i of the table is row first + step * i of the rows of bits, for each i below count.
 #[derive(Clone, Copy)]
 pub struct Band {

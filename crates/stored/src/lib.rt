@@ -5,15 +5,15 @@ ghost use Rattle.std.specs.Prelude.{◌≡◌, ◌+◌, ◌*◌, ◌<◌, ◌≤
 ghost use Rattle.bitrow.specs.Bit.{bit, bit_at};
 ghost use Rattle.bitrow.specs.Set.{meet, under};
 ghost use Rattle.model.specs.Table.{stands};
-ghost use Rattle.store.specs.Layout.{Whole};
 ghost use Rattle.formed.specs.Registry.{bits_in, set_in};
 ghost use Rattle.formed.specs.Tests.{firsts};
 
 use entries::Slot;
-use store::Part;
+use store::{Part, Words};
 
 // A bit for each of 64 slots, `step` words apart from word `at` on: set where the slot's first word is this one.
-// Kept: the memory with `at`, since slices of 64 slots would say no less of where they stand, and the clause speaks of the memory's words.
+// Kept: the memory with `at`: a slice of 64 slots would be no plainer, since the clause is of the memory's words, and each caller would
+// carry the slice's back to it.
 pub fn slots_with(memory: &[u64], at: usize, step: usize, first: u64) -> u64
     requires { (at + 64 * step ≤ length memory.now) × (0 < step) }
     ensures { bit result ≡ meet (firsts memory.now at step first) (under 64) }
@@ -28,8 +28,7 @@ pub fn slots_with(memory: &[u64], at: usize, step: usize, first: u64) -> u64
 }
 
 // The standing slots of a table.
-pub fn standing<S: Slot>(memory: &[u64]) -> [u64; 4]
-    requires { Whole memory.now }
+pub fn standing<S: Slot>(memory: &Words) -> [u64; 4]
     ensures { bit_at result ≡ stands (S.table memory.now) }
 {
     let words = S::WORDS;
@@ -41,8 +40,8 @@ pub fn standing<S: Slot>(memory: &[u64]) -> [u64; 4]
 }
 
 // What policy q selects or allows, as stored.
-pub fn stored_set(memory: &[u64], part: Part, q: usize) -> [u64; 4]
-    requires { Whole memory.now × (q < 128) }
+pub fn stored_set(memory: &Words, part: Part, q: usize) -> [u64; 4]
+    requires { q < 128 }
     ensures { bit_at result ≡ set_in (bits_in memory.now) part q }
 {
     access::row_at(memory, part.band().row(q))

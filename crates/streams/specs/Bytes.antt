@@ -1,32 +1,32 @@
 -- The input that is still to come, and what of a text was written.
-use Rattle.std.specs.Prelude.{◌≡◌, Bool, true, false, ℕ, ◌+◌, ◌-◌, ◌≤◌, List, [], take, slice_range, Option}
+use Rattle.std.specs.Prelude.{◌≡◌, Bool, true, false, ℕ, ◌+◌, ◌-◌, ◌≤◌, List, take, slice_range, Option}
 use Rattle.std.specs.Io.KnownBytes.{prepend_known, Appends, IsAtEnd}
 use Rattle.streams.specs.declared.Input.{Input}
 use Rattle.streams.specs.declared.Input.TheVariants.{Unused, Ended}
 
 abbrev pub ended_in : Input → Bool
 ended_in (Unused at end) = false
-ended_in Ended = true
+ended_in (Ended at end) = true
 
 -- what was read and is still to be used
 abbrev pub piece_of : List ℕ → Input → List ℕ
 piece_of bytes (Unused at end) = slice_range bytes at end
-piece_of bytes Ended = []
+piece_of bytes (Ended at end) = slice_range bytes at end
 
 -- how many bytes those are
 abbrev pub left_in : Input → ℕ
 left_in (Unused at end) = end - at
-left_in Ended = 0
+left_in (Ended at end) = end - at
 
 -- they stand within a buffer of so many bytes
 abbrev pub Within : Input → ℕ → Type 0
 Within (Unused at end) room = (at ≤ end) × (end ≤ room)
-Within Ended room = Unit {0}
+Within (Ended at end) room = (at ≤ end) × (end ≤ room)
 
 -- what is left where n more were used
 abbrev pub after : Input → ℕ → Input
 after (Unused at end) n = Unused (at + n) end
-after Ended n = Ended
+after (Ended at end) n = Ended (at + n) end
 
 -- what was read and is still to be used, and then what the reader has left, where that is known
 abbrev pub to_come : List ℕ → Input → Option (List ℕ) → Option (List ℕ)

@@ -1,2 +1,3 @@
--- What a clause knows of the bytes that are handed on.
+-- What a clause knows of the bytes that are handed on, and of calls made again.
 pub mod Bytes
+pub mod Calls

@@ -1,11 +1,12 @@
 #![tactic(auto)]
 
 // The input and the output of `lister`, read and written on where a call failed only for now.
-ghost use Rattle.std.specs.Prelude.{◌≡◌, ◌⊎◌, ◌↔◌, IsTrue, true, false, ◌≤◌, ◌<◌, ◌+◌, length, take, Ok, IsOk, IfOk, OnOk, OnErr};
+ghost use Rattle.std.specs.Prelude.{◌≡◌, ◌⊎◌, ◌↔◌, IsTrue, true, false, ◌≤◌, ◌<◌, ◌+◌, length, Ok, IsOk, IfOk, OnOk, OnErr};
 ghost use Rattle.std.specs.IoError.{error_kind};
 ghost use Rattle.std.specs.Io.{ReadsAtMost, WritesAtMost};
 ghost use Rattle.std.specs.Io.KnownBytes.{Keeps, Appends, ReadConsumes, WriteAppends};
 ghost use Rattle.streams.specs.declared.Input.TheVariants.{Unused};
+ghost use Rattle.streams.specs.Calls.{Settles};
 ghost use Rattle.streams.specs.Bytes.{Within, ended_in, piece_of, left_in, after, to_come, TellsEnd, AppendsSome};
 
 use std::io::{self, Error, ErrorKind, Read, Write};
@@ -31,32 +32,41 @@ fn failed_for_now(error: &Error) -> bool
     kind == ErrorKind::Interrupted || kind == ErrorKind::WouldBlock
 }
 
+// Makes a call, and makes it again while it fails for now, TRIES times at most.
+fn again<F: FnMut() -> io::Result<usize>>(clock: &impl Clock, call: &mut F) -> io::Result<usize>
+    requires { F.IsAlwaysCallable call.old }
+    ensures { Settles F.step call.old result call.new }
+{
+    for _ in 0..TRIES {
+        match call() {
+            Err(e) if failed_for_now(&e) => pause(clock),
+            done => return done,
+        }
+    }
+    call()
+}
+
 // Reads some bytes of the input: how many, 0 at the end.
 fn read<R: Read>(clock: &impl Clock, reader: &mut R, bytes: &mut [u8]) -> io::Result<usize>
     ensures bound { ReadsAtMost result bytes.new }
     ensures bytes { ReadConsumes (R.remaining reader.old) (R.remaining reader.new) result bytes.new }
 {
-    for _ in 0..TRIES {
-        match reader.read(bytes) {
-            Err(e) if failed_for_now(&e) => pause(clock),
-            done => return done,
-        }
-    }
-    reader.read(bytes)
+    again(clock, &mut || reader.read(bytes))
 }
 
-// What is left of the input: of the bytes read last those from one place to before another, or nothing, since it has ended.
+// What is left of the input: of the bytes read last those from one place to before another, and then what the reader has, or no more,
+// since it has ended.
 #[derive(Clone, Copy)]
 pub enum Input {
     Unused(usize, usize),
-    Ended,
+    Ended(usize, usize),
 }
 
 impl Input {
     pub fn ended(self) -> bool
         ensures { result ≡ ended_in self }
     {
-        matches!(&self, Input::Ended)
+        matches!(&self, Input::Ended(_, _))
     }
 
     // What is left of the bytes read last.
@@ -64,10 +74,8 @@ impl Input {
         requires { Within self (length bytes.now) }
         ensures { result.now ≡ piece_of bytes.now self }
     {
-        match self {
-            Input::Unused(at, end) => &bytes[at..end],
-            Input::Ended => &[],
-        }
+        let (Input::Unused(at, end) | Input::Ended(at, end)) = self;
+        &bytes[at..end]
     }
 
     // What is left where n more bytes were used.
@@ -77,7 +85,7 @@ impl Input {
     {
         match self {
             Input::Unused(at, end) => Input::Unused(at + n, end),
-            Input::Ended => Input::Ended,
+            Input::Ended(at, end) => Input::Ended(at + n, end),
         }
     }
 }
@@ -104,15 +112,12 @@ pub fn refill<R: Read>(
     ensures end { IfOk result (λ r. 0 < length bytes.old → TellsEnd input (R.remaining reader.old) → TellsEnd r (R.remaining reader.new)) }
     ensures err { OnErr result (Keeps (R.remaining reader.old) (R.remaining reader.new)) }
 {
-    let Input::Unused(at, end) = input else {
-        return Ok(input);
-    };
-    if at < end {
-        return Ok(input);
-    }
-    match read(clock, reader, bytes)? {
-        0 => Ok(Input::Ended),
-        end => Ok(Input::Unused(0, end)),
+    match input {
+        Input::Unused(at, end) if at >= end => match read(clock, reader, bytes)? {
+            0 => Ok(Input::Ended(0, 0)),
+            end => Ok(Input::Unused(0, end)),
+        },
+        _ => Ok(input),
     }
 }
 
@@ -121,13 +126,7 @@ fn write_some<W: Write>(clock: &impl Clock, writer: &mut W, bytes: &[u8]) -> io:
     ensures bound { WritesAtMost result bytes.now }
     ensures bytes { WriteAppends (W.contents writer.old) (W.contents writer.new) result bytes.now }
 {
-    for _ in 0..TRIES {
-        match writer.write(bytes) {
-            Err(e) if failed_for_now(&e) => pause(clock),
-            done => return done,
-        }
-    }
-    writer.write(bytes)
+    again(clock, &mut || writer.write(bytes))
 }
 
 // Writes the whole text to the output, a short write written on. Where that fails, some of it was written.

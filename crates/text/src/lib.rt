@@ -46,7 +46,8 @@ pub fn put_findings(out: &mut [u8], codes: &[u64]) -> usize
 }
 
 // Puts the line of the block with this number, refused with this number.
-// Kept: the list that C lends for a batch's answers holds numbers, and so the line is put from a number.
+// Kept: the C interface: the list of a batch's answers holds numbers, as C is answered, and so the line is put from a number. And the
+// room for it as a clause, as at `closing::tell_counts`.
 #[tactic(auto, using(crate::proofs::LineLaws::pieces), unfolding(crate::specs::Lines::refused_line))]
 pub fn put_refused(out: &mut [u8], block: u64, number: u64) -> usize
     requires { 64 ≤ length out.old }
@@ -67,7 +68,7 @@ pub fn put_refusal(out: &mut [u8], block: u64, reason: Reason) -> usize
 }
 
 // Puts the line of the block with this number, where the number of its answer is a refusal.
-// Kept: the C interface: the list that C lends for a batch has numbers.
+// Kept: the C interface, as at `put_refused`.
 #[tactic(auto, using(crate::proofs::LineLaws::pieces, crate::proofs::LineLaws::answers))]
 fn put_answer(out: &mut [u8], block: u64, number: u16) -> usize
     requires { 64 ≤ length out.old }
@@ -82,6 +83,8 @@ fn put_answer(out: &mut [u8], block: u64, number: u16) -> usize
 
 // Puts the line of each block that was refused, of those whose answers are these, two numbers for each: 0 and a slot, or the refusal
 // and 0. The first is block n + 1.
+// Kept: a counter beside the `for`: `enumerate` would give a usize, which no `From` makes a u64, and a range from n + 1 on would step past
+// the largest number at its last block.
 pub fn put_refusals(out: &mut [u8], answers: &[u16], n: u64) -> usize
     requires { (64 * (length answers.now / 2) ≤ length out.old) × (n + length answers.now / 2 ≤ 18446744073709551615) }
     ensures { Puts out.old 0 (pair_lines n (pairs_of answers.now)) out.new result }

@@ -16,7 +16,7 @@ use model::Finding;
 pub fn next_finding(memory: &[u64], cursor: Cursor) -> Result<Option<(Finding, Cursor)>, Reason>
     ensures { (memory.now, next_answer result) ≡ memory_step memory.now (ask (next_finding (cursor_place cursor))) }
 {
-    call_tests::test_memory(memory)?;
+    let memory = call_tests::formed_memory(memory)?;
     Ok(cursor.next(memory))
 }
 
@@ -27,6 +27,6 @@ pub fn findings(memory: &[u64], cursor: Cursor, list: &mut [u64]) -> Result<Put,
     ensures result_value { count_put result ≡ length (written (memory_step memory.now (ask (list_findings (cursor_place cursor) (length list.old)))).1) }
     ensures list_after_2 { list.new ≡ overwritten list.old (written (memory_step memory.now (ask (list_findings (cursor_place cursor) (length list.old)))).1) }
 {
-    call_tests::test_memory(memory)?; // refused, it puts nothing
+    let memory = call_tests::formed_memory(memory)?; // refused, it puts nothing
     Ok(cursor.list(memory, list))
 }

@@ -8,6 +8,7 @@ ghost use Rattle.formed.specs.Registry.{registry_in, image, EntriesFormed};
 ghost use Rattle.whole.specs.StoredRows.{StoredFrom};
 
 use matrix_rows::Gathered;
+use store::Words;
 
 // Row r of the stored bits by the rules, from what is gathered for all that stand: a row of the matrix, then by turns what a policy
 // selects and what it allows.
@@ -26,8 +27,8 @@ pub fn row_of_bits(r: usize, gathered: &Gathered) -> [u64; 4]
 }
 
 // "Rebuild sets every kept bit by the rules."
-// Kept: the call of this name in `upkeep` tests its memory and then does this: another name would be a second one for one thing.
-pub fn rebuild(memory: &mut [u64])
+// Kept: another name would be no plainer: it is the work of the call of this name in `upkeep`, which tests its memory first.
+pub fn rebuild(memory: &mut Words)
     requires { EntriesFormed memory.old }
     ensures { memory.new ≡ image (rebuilt (registry_in memory.old)) }
 {

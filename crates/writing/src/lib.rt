@@ -16,7 +16,7 @@ pub fn write(memory: &[u64], bytes: &mut [u8]) -> Result<usize, Reason>
     ensures result_value { count_bytes result ≡ length (written (memory_step memory.now (ask (write_into (length bytes.old)))).1) }
     ensures bytes_after_2 { bytes.new ≡ overwritten bytes.old (written (memory_step memory.now (ask (write_into (length bytes.old)))).1) }
 {
-    call_tests::test_memory(memory)?;
+    let memory = call_tests::formed_memory(memory)?;
     if bytes.len() < files::file_length(memory) {
         return Err(Reason::BufferLength);
     }

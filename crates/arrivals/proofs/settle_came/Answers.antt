@@ -6,7 +6,6 @@ use Rattle.bitrow.specs.Bit.{bit_at}
 use Rattle.bitrow.proofs.Rows.{row-bounded}
 use Rattle.formed.specs.Registry.{registry_in, image}
 use Rattle.formed.proofs.Formed.{formed-memory, formed-entries}
-use Rattle.formed.proofs.Reading.{formed-whole}
 use Rattle.sets.proofs.Candidates.{none-known}
 use Rattle.arrivals.proofs.Came.{anew-settled, came-none}
 use Rattle.arrivals.proofs.settle_came.Goals as goal
@@ -14,9 +13,6 @@ use Rattle.arrivals.proofs.settle_came.Goals as goal
 pub returns-then-is_empty : goal.returns-then-is_empty
 returns-then-is_empty c =
     came-none _ c.requires _ _ c.either.ensures (row-bounded _ (search rules)) (not-true _ (sym c.is_empty.ensures ∙ c.if-is_empty.true))
-
-pub standing-standing-requires : goal.standing-standing-requires
-standing-standing-requires c = formed-whole _ (formed-entries _ c.requires)
 
 pub gather-requires : goal.gather-requires
 gather-requires c =

@@ -1,18 +1,14 @@
--- A policy that is in the set joins its row.
-use mathlib.Core.Path.{refl, sym, ◌∙◌}
-use Rattle.bitrow.proofs.Arrays.{bit-of-row}
-use Rattle.joins.proofs.JoinLaws.{lines_none, lines-skip, lines-take}
+-- Each policy joins its row.
+use mathlib.Core.Path.{refl, ap, ◌∙◌}
+use Rattle.rules.specs.Policies.{to_come}
+use Rattle.joins.proofs.JoinLaws.{lines_none, lines-take, lines-all}
 use Rattle.joins.proofs.join_all.Goals as goal
-use Rattle.joins.proofs.join_all.Goals.{then-bit_of, else-bit_of}
 
 pub loop-q-init : goal.loop-q-init
-loop-q-init c = lines_none c.requires
+loop-q-init c = lines_none c.requires (ap to_come c.into_iter-q-iterator.ensures.into_iter_gives ∙ c.of-q-items.ensures)
 
 pub loop-q-preserved : goal.loop-q-preserved
-loop-q-preserved c =
-    elim c.if-bit_of.branch [
-      | then-bit_of w ↦
-          rw w.lines-is
-          (lines-take c.loop-q.invariant (sym (c.bit_of.ensures ∙ bit-of-row _ _) ∙ w.if-bit_of.true) w.both-those.ensures refl w.join_rows.ensures)
-      | else-bit_of w ↦ rw w.lines-is (lines-skip c.loop-q.invariant (sym (c.bit_of.ensures ∙ bit-of-row _ _) ∙ w.if-bit_of.false))
-    ]
+loop-q-preserved c = lines-take c.loop-q.invariant c.in-Some.ensures.steps c.both-those.ensures refl c.join_rows.ensures
+
+pub returns : goal.returns
+returns c = lines-all c.loop-q.invariant c.in-None.ensures.steps

@@ -13,7 +13,7 @@ loop-k-preserved c =
     let low = trailing 64 l.k-iterator.0 l.invariant.small step.0 in
     rw c.from.ensures
     (joining-next _ _ _ _ l.invariant c.in-Some.k (ap (bit l.k-iterator.0) step.1 ∙ low.there) step.2 step.3 _
-    (omega (arith, low.below, step.1, l.invariant.size, c.requires.0, c.requires.1)) (rw c.from.ensures at c.either-row.ensures))
+    (omega (arith, low.below, step.1, l.invariant.size, c.told-lines, c.requires)) (rw c.from.ensures at c.either-row.ensures))
 
 pub returns : goal.returns
 returns c = joining-all _ _ _ _ c.loop-k.invariant (omega (arith, c.in-None.ensures.steps))

@@ -48,7 +48,7 @@ returns-then-all c =
     (label-behind _ _ c.requires.1.within c.loop-word.word-index (rw c.labels_of-word-items.ensures.words at c.loop-word-test.false))
 
 pub trial-requires : goal.trial-requires
-trial-requires c = let p = c.requires in (formed-whole _ p.0, p.1, formed-slots _ p.0)
+trial-requires c = let p = c.requires in (p.1, formed-slots _ p.0)
 
 pub returns : goal.returns
 returns c = c.trial.ensures ∙ c.loop-word.invariant.narrowed

@@ -1,5 +1,5 @@
 use Rattle.std.proofs.Common.{◌≤◌, ◌<◌, sym, ap, ◌∙◌, length, arith, rules}
-use Rattle.streams.specs.Bytes.{ended_in, left_in, to_come}
+use Rattle.streams.specs.Bytes.{left_in, to_come}
 use Rattle.lister.proofs.Standing.{starts, refilled, stepped, failed, whole, begun, cut_short, piece-within, within_after, ended-after}
 use Rattle.lister.proofs.pump.Goals as goal
 
@@ -10,7 +10,7 @@ loop-state-init g c =
       started = search rules;
       within = search rules;
       told = λ some e. cc;
-      stands = starts _ _ _ _ _ c.requires.0 c.requires.1;
+      stands = starts _ _ _ _ _ c.told-memory c.told-block;
     })
 
 pub loop-state-preserved : goal.loop-state-preserved

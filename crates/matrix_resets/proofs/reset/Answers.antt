@@ -1,6 +1,5 @@
 use mathlib.Core.Path.{refl, sym, ap, ◌∙◌}
 use native.Mathlib.Omega.{arith}
-use borrow.Author.Rules.{rules}
 use Rattle.bitrow.specs.Bit.{bit_at}
 use Rattle.formed.specs.Registry.{registry_in}
 use Rattle.formed.proofs.Reading.{entries-hold}
@@ -18,7 +17,7 @@ gather_rows-requires c =
     }
 
 pub loop-a-init : goal.loop-a-init
-loop-a-init c = resets_none _ _ _ (entries-hold _ c.requires.entries_formed.0) (λ k. search rules)
+loop-a-init c = resets_none _ _ _ (entries-hold _ c.requires.entries_formed.0) c.fits-memory
 
 pub loop-a-preserved : goal.loop-a-preserved
 unfolding registry_in
@@ -27,7 +26,7 @@ loop-a-preserved c =
     elim c.if-has.branch [
       | then-has w ↦
           let e = sym c.has.ensures ∙ w.if-has.true in
-          rw w.memory-is (resets-take _ _ _ g c.loop-a-test.true e w.reset_row.ensures (c.gather_rows.ensures.row w.row_from-ruled.ensures e) (λ k. search rules))
+          rw w.memory-is (resets-take _ _ _ g c.loop-a-test.true e w.reset_row.ensures (c.gather_rows.ensures.row w.row_from-ruled.ensures e))
       | else-has w ↦ rw w.memory-is (resets-skip _ _ _ g c.loop-a-test.true (sym c.has.ensures ∙ w.if-has.false))
     ]
 

@@ -1,22 +1,16 @@
--- A turn of the loop: the row fails, or the rest decides.
-use Rattle.std.proofs.Common.{◌∙◌, refl, sym}
-use Rattle.formed.specs.Tests.{matrix_ok}
-use Rattle.formed.proofs.Runs.{between-hit, between-skip, between_done, said-no, said-yes}
+use borrow.Author.Rules.{rules}
+use borrow.Author.Tests.{tests}
+use mathlib.Core.Path.{refl, sym, ◌∙◌}
+use Rattle.std.proofs.lemmas.Iterator.{YieldsList-from_range}
+use Rattle.std.proofs.lemmas.Iterator.Search.{all_from_yields_List}
+use Rattle.bitrow.specs.Bit.{bit_at}
+use Rattle.formed.specs.Tests.{matrix_row_ok, matrix_ok}
+use Rattle.formed.proofs.Listed.{between-listed}
 use Rattle.memory_tests.proofs.matrix_ok.Goals as goal
 
-pub loop-a-init : goal.loop-a-init
-unfolding matrix_ok
-loop-a-init c = refl
-
-pub returns-then-not-row_ok : goal.returns-then-not-row_ok
-returns-then-not-row_ok c =
-    let l = c.loop-a in
-    sym (l.invariant ∙ between-hit _ l.a _ c.loop-a-test.true (said-no c.row_ok.ensures c.if-not-row_ok.true))
-
-pub loop-a-preserved : goal.loop-a-preserved
-loop-a-preserved c =
-    let l = c.loop-a in
-    l.invariant ∙ between-skip _ l.a _ c.loop-a-test.true (said-yes c.row_ok.ensures c.if-not-row_ok.false)
-
 pub returns : goal.returns
-returns c = sym (c.loop-a.invariant ∙ between_done _ c.loop-a.a _ c.loop-a-test.false)
+unfolding matrix_ok
+returns c =
+    all_from_yields_List (matrix_row_ok c.args.memory.now (bit_at c.args.standing)) _ _ c.all.result c.all.ensures.ran (YieldsList-from_range 0 256 256 refl refl)
+    (λ x b q k. search (rules, tests))
+    ∙ sym (between-listed (matrix_row_ok c.args.memory.now (bit_at c.args.standing)) 256)

@@ -1,27 +1,16 @@
--- A turn of the loop: a row fails, or the rest decides.
-use Rattle.std.proofs.Common.{◌∙◌, refl, sym}
-use Rattle.formed.specs.Tests.{sets_ok}
-use Rattle.formed.proofs.Runs.{between-hit, between-skip, between_done, said-no, said-yes, and-fails, and-passes}
+use borrow.Author.Rules.{rules}
+use borrow.Author.Tests.{tests}
+use mathlib.Core.Path.{refl, sym, ◌∙◌}
+use Rattle.std.proofs.lemmas.Iterator.{YieldsList-from_range}
+use Rattle.std.proofs.lemmas.Iterator.Search.{all_from_yields_List}
+use Rattle.bitrow.specs.Bit.{bit_at}
+use Rattle.formed.specs.Tests.{◌and◌, set_rows_ok, sets_ok}
+use Rattle.formed.proofs.Listed.{between-listed}
 use Rattle.memory_tests.proofs.sets_ok.Goals as goal
 
-pub loop-q-init : goal.loop-q-init
-unfolding sets_ok
-loop-q-init c = refl
-
-pub returns-then-not-row_ok : goal.returns-then-not-row_ok
-returns-then-not-row_ok c =
-    let l = c.loop-q in
-    sym (l.invariant ∙ between-hit _ l.q _ c.loop-q-test.true (and-fails _ _ (said-no c.row_ok.ensures c.if-not-row_ok.true)))
-
-pub returns-then-not-row_ok-2 : goal.returns-then-not-row_ok-2
-returns-then-not-row_ok-2 c =
-    let l = c.loop-q in
-    sym (l.invariant ∙ between-hit _ l.q _ c.loop-q-test.true (and-passes _ _ (said-yes c.row_ok.ensures c.if-not-row_ok.false) (said-no c.row_ok-in-loop-q.ensures c.if-not-row_ok-2.true)))
-
-pub loop-q-preserved : goal.loop-q-preserved
-loop-q-preserved c =
-    let l = c.loop-q in
-    l.invariant ∙ between-skip _ l.q _ c.loop-q-test.true (and-passes _ _ (said-yes c.row_ok.ensures c.if-not-row_ok.false) (said-yes c.row_ok-in-loop-q.ensures c.if-not-row_ok-2.false))
-
 pub returns : goal.returns
-returns c = sym (c.loop-q.invariant ∙ between_done _ c.loop-q.q _ c.loop-q-test.false)
+unfolding sets_ok ◌and◌
+returns c =
+    all_from_yields_List (set_rows_ok c.args.memory.now (bit_at c.args.standing)) _ _ c.all.result c.all.ensures.ran (YieldsList-from_range 0 128 128 refl refl)
+    (λ x b q k. search (rules, tests))
+    ∙ sym (between-listed (set_rows_ok c.args.memory.now (bit_at c.args.standing)) 128)

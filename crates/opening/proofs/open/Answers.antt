@@ -2,15 +2,19 @@
 use mathlib.Core.Path.{refl, sym}
 use Rattle.steps.proofs.Outcomes.{step-size}
 use Rattle.answers.specs.Answers.{outcome_answer}
-use Rattle.answers.proofs.AnswerLaws.{turned}
+use Rattle.answers.proofs.AnswerLaws.{turned, ok_or-reason}
 use Rattle.opening.proofs.OpenLaws.{open-refused-by, open-answer}
 use Rattle.opening.proofs.open.Goals as goal
 
-pub returns-then-memory-ne-WORDS : goal.returns-then-memory-ne-WORDS
-returns-then-memory-ne-WORDS c = sym (step-size _ _ c.if-memory-ne-WORDS.true)
+pub returns-in_err-memory : goal.returns-in_err-memory
+returns-in_err-memory c = turned _ _ outcome_answer (ok_or-reason _ _ _ c.from_residual.ensures.1 c.in_err-memory.ensures.value) refl (step-size _ _ (rw c.in_err-memory.ensures.ok_part at c.as_mut_array.ensures.cases))
 
 pub returns-in_err-settings : goal.returns-in_err-settings
-returns-in_err-settings c = turned _ _ outcome_answer c.from_residual.ensures.1 refl (open-refused-by _ _ c.if-memory-ne-WORDS.false _ (sym c.in_err-settings.ensures))
+returns-in_err-settings c =
+    let e = rw c.in_ok-memory.ensures.ok_part at c.as_mut_array.ensures.cases in
+    rw e.same (turned _ _ outcome_answer c.from_residual-in_err-settings.ensures.1 refl (open-refused-by _ _ e.long _ (sym c.in_err-settings.ensures)))
 
 pub returns : goal.returns
-returns c = sym (open-answer _ _ c.if-memory-ne-WORDS.false _ _ (sym c.in_ok-settings.ensures) c.start.ensures)
+returns c =
+    let e = rw c.in_ok-memory.ensures.ok_part at c.as_mut_array.ensures.cases in
+    sym (open-answer _ _ e.long _ _ (sym c.in_ok-settings.ensures) c.start.ensures)

@@ -1,5 +1,4 @@
 -- The slot's words, the sets of the policy, then the bits that it touches.
-use borrow.Author.Rules.{rules}
 use mathlib.Core.Path.{sym, ◌∙◌}
 use mathlib.Core.Option.{some}
 use Rattle.block.proofs.Accepted.{accepted-valid}
@@ -30,7 +29,7 @@ returns-then-is_empty c =
     let v = accepted-valid _ _ _ p.2 in
     let h = held_at _ p.0 _ p.1 (some _) v c.place_policy.ensures in
     let changed = c.settle-selected.ensures.0 in
-    change-over _ p.0 _ p.1 (some _) v c.place_policy.ensures changed _ (λ i. search rules)
+    change-over _ p.0 _ p.1 (some _) v c.place_policy.ensures changed _
     (c.settle-selected.ensures.1 ∙ selected-selection _ _ _ h ∙ change-selection _ p.0 _ p.1 (some _) v c.place_policy.ensures changed _) (sym c.is_empty.ensures ∙ c.if-is_empty.true)
 
 pub returns : goal.returns

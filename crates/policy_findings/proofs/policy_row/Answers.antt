@@ -23,13 +23,13 @@ pub stored_set-who-requires : goal.stored_set-who-requires
 stored_set-who-requires c =
     let p = c.requires in
     let h = at-policy _ _ _ (formed-entries _ p.0) p.1 (sym c.has.ensures ∙ c.if-not-has.false) in
-    (h.formed.whole, h.below)
+    h.below
 
 pub stored_set-whom-requires : goal.stored_set-whom-requires
 stored_set-whom-requires c =
     let p = c.requires in
     let h = at-policy _ _ _ (formed-entries _ p.0) p.1 (sym c.has.ensures ∙ c.if-not-has.false) in
-    (h.formed.whole, h.below)
+    h.below
 
 pub candidates-some-requires : goal.candidates-some-requires
 candidates-some-requires c =

@@ -7,10 +7,10 @@ pub one_direction-one_way-requires : goal.one_direction-one_way-requires
 one_direction-one_way-requires c = let p = c.requires in (p.0.at, p.1)
 
 pub stored_set-who-requires : goal.stored_set-who-requires
-stored_set-who-requires c = let b = c.requires.1 in (b.formed.whole, b.below)
+stored_set-who-requires c = let b = c.requires.1 in b.below
 
 pub stored_set-whom-requires : goal.stored_set-whom-requires
-stored_set-whom-requires c = let b = c.requires.1 in (b.formed.whole, b.below)
+stored_set-whom-requires c = let b = c.requires.1 in b.below
 
 pub returns-then-not-part_of : goal.returns-then-not-part_of
 returns-then-not-part_of c =

@@ -8,6 +8,6 @@ pub returns : goal.returns
 unfolding computed_bits
 returns c =
     let p = c.requires in (
-      settled-image _ p.0 _ p.1 _ _ (rw (c.row.ensures, c.band.ensures) at c.set_row.ensures) (rw (c.row-2.ensures, c.band-2.ensures) at c.set_row-2.ensures) c.matched-selected.ensures c.matched-allowed.ensures (λ k. search rules),
+      settled-image _ p.0 _ p.1 c.fits-memory _ _ (λ k. search rules) (λ k. search rules) (rw (c.row.ensures, c.band.ensures) at c.set_row.ensures) (rw (c.row-2.ensures, c.band-2.ensures) at c.set_row-2.ensures) c.matched-selected.ensures c.matched-allowed.ensures,
       c.matched-selected.ensures,
     )

@@ -6,7 +6,7 @@ use Rattle.report.proofs.step.Goals as goal
 
 pub returns-in-Taking : goal.returns-in-Taking
 returns-in-Taking c =
-    let few = subst (λ s. started_in s < 512) c.in-Taking.is c.requires.1 in
+    let few = subst (λ s. started_in s < 512) c.in-Taking.is c.requires.0 in
     let steps = step-take _ _ _ _ _ _ c.in-Taking.is few (search rules) c.take.ensures.does c.take.ensures.used_in_bounds in
     record { does = steps.0; used_in_bounds = steps.1.0; state_bound = steps.1.1 }
 

@@ -1,13 +1,9 @@
--- The loop has picked among the first q policies: whether any has a, and the union of their rows.
-use Rattle.std.proofs.Common.{◌≡◌, false}
+-- Whether any is found, and what is joined, with the policies to come.
 use Rattle.bitrow.specs.Bit.{bit_at}
-use Rattle.bitrow.specs.Set.{nothing}
 use Rattle.sets.specs.Sets.{bits}
-use Rattle.rules.specs.Lets.{Picks}
+use Rattle.rules.specs.Policies.{to_come}
+use Rattle.rules.proofs.Unions.{Picking}
 use Rattle.rules.proofs.pick.Given as goal
 
 abbrev pub invariant-loop-q : goal.invariant-loop-q
-invariant-loop-q l = record {
-  picks : Picks l.q (bit_at l.policies) (bits l.tests) (bits l.rows) l.a l.any (bit_at l.joined);
-  empty : l.any ≡ false → bit_at l.joined ≡ nothing;
-}
+invariant-loop-q l = Picking (bit_at l.fn.policies) (bits l.tests) (bits l.rows) l.a (to_come l.q-iterator) l.any (bit_at l.joined)

@@ -1,23 +1,16 @@
--- A policy that is in the set adds its row.
-use mathlib.Core.Path.{sym, ap, ◌∙◌}
-use Rattle.std.proofs.Common.{ℕ, Bool}
-use Rattle.bitrow.specs.Set.{join}
-use Rattle.bitrow.proofs.Arrays.{bit-of-row}
-use Rattle.sets.specs.Sets.{bits}
-use Rattle.rules.proofs.Unions.{union-none, union-skip, union-take}
+-- Each policy adds its row.
+use mathlib.Core.Path.{ap, ◌∙◌}
+use Rattle.rules.specs.Policies.{to_come}
+use Rattle.rules.proofs.Unions.{joining_none, joining-one, joining-all}
 use Rattle.rules.proofs.union_of.Goals as goal
-use Rattle.rules.proofs.union_of.Goals.{then-bit_of, else-bit_of}
 
 pub loop-q-init : goal.loop-q-init
-loop-q-init c = c.none-joined.ensures ∙ sym (union-none _ _)
+loop-q-init c = joining_none (ap to_come c.into_iter-q-iterator.ensures.into_iter_gives ∙ c.of-q-items.ensures) c.none-joined.ensures
 
 pub loop-q-preserved : goal.loop-q-preserved
 loop-q-preserved c =
-    elim c.if-bit_of.branch [
-      | then-bit_of w ↦
-          rw w.joined-is
-          (w.either-next.ensures ∙ ap (λ (s : ℕ → Bool). join s (bits c.args.rows.now c.loop-q.q)) c.loop-q.invariant
-          ∙ sym (union-take _ _ c.loop-q.q (sym (c.bit_of.ensures ∙ bit-of-row _ _) ∙ w.if-bit_of.true)))
-      | else-bit_of w ↦
-          rw w.joined-is (c.loop-q.invariant ∙ sym (union-skip _ _ c.loop-q.q (sym (c.bit_of.ensures ∙ bit-of-row _ _) ∙ w.if-bit_of.false)))
-    ]
+    let step = c.in-Some.ensures.steps in
+    joining-one c.loop-q.invariant step.0 step.1 step.2 c.either-more.ensures
+
+pub returns : goal.returns
+returns c = joining-all c.loop-q.invariant c.in-None.ensures.steps

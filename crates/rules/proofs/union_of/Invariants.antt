@@ -1,9 +1,9 @@
--- The loop has the union of the rows of those of the first q policies that are in the set.
-use Rattle.std.proofs.Common.{◌≡◌}
+-- What is joined, and the rows of the policies to come, make the union.
 use Rattle.bitrow.specs.Bit.{bit_at}
 use Rattle.sets.specs.Sets.{bits}
-use Rattle.rules.specs.Lets.{union}
+use Rattle.rules.specs.Policies.{to_come}
+use Rattle.rules.proofs.Unions.{Joining}
 use Rattle.rules.proofs.union_of.Given as goal
 
 abbrev pub invariant-loop-q : goal.invariant-loop-q
-invariant-loop-q l = bit_at l.joined ≡ union (bit_at l.policies) (bits l.rows) l.q
+invariant-loop-q l = Joining (bit_at l.fn.policies) (bits l.rows) (to_come l.q-iterator) (bit_at l.joined)

@@ -9,7 +9,7 @@ pub returns-then-memory-at-eq0 : goal.returns-then-memory-at-eq0
 returns-then-memory-at-eq0 c = c.none.ensures ∙ part_free _ _ _ _ c.if-memory-at-eq0.true
 
 pub trial-requires : goal.trial-requires
-trial-requires c = (formed-whole _ c.requires.0, c.requires.2.part c.args.q c.requires.1, formed-slots _ c.requires.0)
+trial-requires c = (c.requires.2.part c.args.q c.requires.1, formed-slots _ c.requires.0)
 
 pub returns : goal.returns
 returns c = c.trial.ensures ∙ part-taken _ _ _ _ c.if-memory-at-eq0.false

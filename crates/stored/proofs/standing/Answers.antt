@@ -7,7 +7,7 @@ pub loop-k-init : goal.loop-k-init
 loop-k-init g c = gathered-none
 
 pub slots_with-requires : goal.slots_with-requires
-slots_with-requires g c = word_room (g.met.S.Slot.tabled c.args.memory.now) c.loop-k.k _ _ c.requires (omega arith) c.START.ensures c.WORDS-words.ensures
+slots_with-requires g c = word_room (g.met.S.Slot.tabled c.args.memory.now) c.loop-k.k _ _ c.told-memory (omega arith) c.START.ensures c.WORDS-words.ensures
 
 pub loop-k-preserved : goal.loop-k-preserved
 loop-k-preserved g c =

@@ -8,4 +8,4 @@ use Rattle.stored.proofs.stored_set.Goals as goal
 pub returns : goal.returns
 returns c =
     let m = c.args.memory.now in
-    ap bit_at (c.row_at.ensures ∙ ap (row_at m) (c.row.ensures ∙ ap (λ t. band_row t c.args.q) c.band.ensures)) ∙ set-row m c.args.part c.args.q c.requires.1
+    ap bit_at (c.row_at.ensures ∙ ap (row_at m) (c.row.ensures ∙ ap (λ t. band_row t c.args.q) c.band.ensures)) ∙ set-row m c.args.part c.args.q c.requires

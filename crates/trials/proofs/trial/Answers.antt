@@ -28,16 +28,16 @@ module _ (m : List ℕ) (part : ℕ) (words : List ℕ) where
   tried at w n e h = h ∙ ap (λ ls. meet (meet (bit n) (λ i. matches ls (part_in m (at + container_words * i)))) (under 64)) e
 
 pub trial_word-requires : goal.trial_word-requires
-trial_word-requires c = let p = c.requires in (none-zero _ _ _ p.1 c.labels_of-labels.ensures.words, slots-from _ p.0 p.2 0 (omega arith))
+trial_word-requires c = let p = c.requires in (none-zero _ _ _ p.0 c.labels_of-labels.ensures.words, slots-from _ c.told-memory p.1 0 (omega arith))
 
 pub trial_word-requires-2 : goal.trial_word-requires-2
-trial_word-requires-2 c = let p = c.requires in (none-zero _ _ _ p.1 c.labels_of-labels.ensures.words, slots-from _ p.0 p.2 64 (omega arith))
+trial_word-requires-2 c = let p = c.requires in (none-zero _ _ _ p.0 c.labels_of-labels.ensures.words, slots-from _ c.told-memory p.1 64 (omega arith))
 
 pub trial_word-requires-3 : goal.trial_word-requires-3
-trial_word-requires-3 c = let p = c.requires in (none-zero _ _ _ p.1 c.labels_of-labels.ensures.words, slots-from _ p.0 p.2 128 (omega arith))
+trial_word-requires-3 c = let p = c.requires in (none-zero _ _ _ p.0 c.labels_of-labels.ensures.words, slots-from _ c.told-memory p.1 128 (omega arith))
 
 pub trial_word-requires-4 : goal.trial_word-requires-4
-trial_word-requires-4 c = let p = c.requires in (none-zero _ _ _ p.1 c.labels_of-labels.ensures.words, slots-from _ p.0 p.2 192 (omega arith))
+trial_word-requires-4 c = let p = c.requires in (none-zero _ _ _ p.0 c.labels_of-labels.ensures.words, slots-from _ c.told-memory p.1 192 (omega arith))
 
 pub returns : goal.returns
 returns c =

@@ -4,6 +4,7 @@ use mathlib.Core.Path.{ap, ◌∙◌}
 use Rattle.bitrow.specs.Bit.{bit_at}
 use Rattle.formed.specs.Registry.{registry_in}
 use Rattle.store.proofs.Columns.{filling-none}
+use Rattle.formed.proofs.Fits.{fits_by, fits_row}
 use Rattle.formed.proofs.Reading.{entries-hold}
 use Rattle.sets.proofs.Candidates.{none-known}
 use Rattle.whole.proofs.WholeLaws.{rebuilding-next, rebuilt-image}
@@ -18,7 +19,7 @@ gather-requires c =
     }
 
 pub loop-r-init : goal.loop-r-init
-loop-r-init c = (filling-none (entries-hold _ c.requires), λ k. search rules)
+loop-r-init c = (filling-none (entries-hold _ c.requires), c.fits-memory)
 
 pub loop-r-preserved : goal.loop-r-preserved
 unfolding registry_in
@@ -26,7 +27,7 @@ loop-r-preserved c = (
   rebuilding-next _ c.loop-r.invariant.0 (omega arith) _
       (c.row_of_bits-row.ensures.is c.gather.ensures c.standing-standing.ensures)
       c.set_row.ensures,
-  λ k. omega (arith, c.type_inv.memory k),
+  fits_by _ (fits_row _ _ _ c.loop-r.invariant.1 (λ k. search rules)) c.set_row.ensures,
 )
 
 pub returns : goal.returns

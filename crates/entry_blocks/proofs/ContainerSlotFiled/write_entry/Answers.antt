@@ -16,14 +16,11 @@ use Rattle.entry_blocks.proofs.ContainerSlotFiled.write_entry.Goals as goal
 pub labels_of-labels-requires : goal.labels_of-labels-requires
 labels_of-labels-requires c = let ok = c.requires.0 in container-within _ ok.whole (formed-slots _ ok) _ c.requires.1
 
-pub overflow_add-count : goal.overflow_add-count
-overflow_add-count c = omega (arith, formed-head _ c.requires.0 _ c.requires.1)
-
-pub put_number-kind-requires : goal.put_number-kind-requires
-put_number-kind-requires c = (begun c.requires.3, omega arith, omega (arith, formed-head _ c.requires.0 _ c.requires.1))
+pub put_two-kind-requires : goal.put_two-kind-requires
+put_two-kind-requires c = (begun c.requires.3, omega arith, omega arith, omega (arith, formed-head _ c.requires.0 _ c.requires.1))
 
 pub put_labels-sum-requires : goal.put_labels-sum-requires
-put_labels-sum-requires c = (container-fits _ c.requires.0 _ c.requires.1 c.labels_of-labels.ensures.words, c.put_number-unused.ensures.summed)
+put_labels-sum-requires c = (container-fits _ c.requires.0 _ c.requires.1 c.labels_of-labels.ensures.words, c.put_two-unused.ensures.summed)
 
 pub seal-requires : goal.seal-requires
 seal-requires c = labels-summed c.labels_of-labels.result.now c.put_labels-sum.ensures
@@ -34,6 +31,6 @@ returns c =
     let words = c.labels_of-labels.result.now in
     let n = word_at m (container_start c.args.self.0) - 1 in
     let count : length words ≡ n = container-count m c.requires.0 _ c.requires.1 c.labels_of-labels.ensures.words in
-    container-block (map label_in words) n (length-map words label_in ∙ count) (omega (arith, formed-head m c.requires.0 _ c.requires.1))
-    c.put_number-kind.ensures c.put_number-unused.ensures c.put_labels-sum.ensures (c.seal.ensures ∙ ap (λ k. sealed (take (4 + 4 * k) c.put_labels-sum.new.block)) count)
+    container-block (map label_in words) n (length-map words label_in ∙ count)
+    c.put_two-kind.ensures c.put_two-unused.ensures c.put_labels-sum.ensures (c.seal.ensures ∙ ap (λ k. sealed (take (4 + 4 * k) c.put_labels-sum.new.block)) count)
     ∙ ap (λ x. block_of (container x)) c.labels_of-labels.ensures.labels

@@ -23,23 +23,16 @@ overflow_sub-selects c = (standing-heads _ c.requires.0 _ c.requires.1 c.require
 pub overflow_sub-allows : goal.overflow_sub-allows
 overflow_sub-allows c = (standing-heads _ c.requires.0 _ c.requires.1 c.requires.2).allow.0
 
-pub overflow_add-memory : goal.overflow_add-memory
-overflow_add-memory c = omega (arith, standing-heads _ c.requires.0 _ c.requires.1 c.requires.2)
+pub put_two-direction-requires : goal.put_two-direction-requires
+put_two-direction-requires c = (begun c.requires.3, omega arith, omega arith, omega (arith, standing-heads _ c.requires.0 _ c.requires.1 c.requires.2))
 
-pub put_number-direction-requires : goal.put_number-direction-requires
-put_number-direction-requires c = (begun c.requires.3, omega arith, omega (arith, standing-heads _ c.requires.0 _ c.requires.1 c.requires.2))
-
-pub overflow_mul-selects : goal.overflow_mul-selects
-overflow_mul-selects c = omega (arith, standing-heads _ c.requires.0 _ c.requires.1 c.requires.2)
-
-pub overflow_add-selects-2 : goal.overflow_add-selects-2
-overflow_add-selects-2 c = omega (arith, standing-heads _ c.requires.0 _ c.requires.1 c.requires.2)
-
-pub put_number-counts-requires : goal.put_number-counts-requires
-put_number-counts-requires c = (c.put_number-direction.ensures.summed, omega arith, omega (arith, standing-heads _ c.requires.0 _ c.requires.1 c.requires.2))
+pub put_two-counts-requires : goal.put_two-counts-requires
+put_two-counts-requires c =
+    let heads = standing-heads _ c.requires.0 _ c.requires.1 c.requires.2 in
+    (c.put_two-direction.ensures.summed, omega arith, omega (arith, heads), omega (arith, heads))
 
 pub put_labels-selected-requires : goal.put_labels-selected-requires
-put_labels-selected-requires c = (select-fits _ c.requires.0 _ c.requires.1 c.labels_of-select.ensures.words, c.put_number-counts.ensures.summed)
+put_labels-selected-requires c = (select-fits _ c.requires.0 _ c.requires.1 c.labels_of-select.ensures.words, c.put_two-counts.ensures.summed)
 
 pub put_labels-allowed-requires : goal.put_labels-allowed-requires
 put_labels-allowed-requires c =
@@ -63,12 +56,11 @@ returns c =
     let a = word_at m (policy_start q + allow_offset) - 1 in
     let selects : length select.result.now ≡ s = select-count m ok q h select.ensures.words in
     let allows : length allow.result.now ≡ a = allow-count m ok q h allow.ensures.words in
-    policy-block (policy_at m q) _ s a (standing-direction m ok q h c.requires.2) (omega (arith, standing-heads m ok q h c.requires.2))
+    policy-block (policy_at m q) _ s a (standing-direction m ok q h c.requires.2)
     (ap length (sym select.ensures.labels) ∙ length-map select.result.now label_in ∙ selects)
     (ap length (sym allow.ensures.labels) ∙ length-map allow.result.now label_in ∙ allows)
-    (omega (arith, standing-heads m ok q h c.requires.2))
-    c.put_number-direction.ensures c.put_number-counts.ensures
-    (subst (λ (ls : List Label). Lengthens c.put_number-counts.new.block 4 (label_bytes ls) c.put_labels-selected.new.block c.put_labels-selected.result) select.ensures.labels c.put_labels-selected.ensures)
+    c.put_two-direction.ensures c.put_two-counts.ensures
+    (subst (λ (ls : List Label). Lengthens c.put_two-counts.new.block 4 (label_bytes ls) c.put_labels-selected.new.block c.put_labels-selected.result) select.ensures.labels c.put_labels-selected.ensures)
     (subst (λ (ls : List Label). Lengthens c.put_labels-selected.new.block (4 + 4 * s) (label_bytes ls) c.put_labels-allowed.new.block c.put_labels-allowed.result) allow.ensures.labels
     (subst (λ (k : ℕ). Lengthens c.put_labels-selected.new.block (4 + 4 * k) (label_bytes (map label_in allow.result.now)) c.put_labels-allowed.new.block c.put_labels-allowed.result) selects c.put_labels-allowed.ensures))
     (c.seal.ensures ∙ ap₂ (λ (i j : ℕ). sealed (take (4 + 4 * i + 4 * j) c.put_labels-allowed.new.block)) selects allows)

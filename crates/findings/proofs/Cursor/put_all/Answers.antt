@@ -1,14 +1,10 @@
 -- Each turn puts the findings of one row.
 use borrow.Author.Rules.{rules}
 use native.Mathlib.Omega.{arith}
-use Rattle.formed.proofs.Formed.{formed-memory}
 use Rattle.findings.specs.Steps.{cursor_place}
 use Rattle.findings.proofs.Walk.{SmallPlace}
 use Rattle.findings.proofs.PutSoFar.{listed-none, listed-room, listed-come, listed-row, listed-end}
 use Rattle.findings.proofs.Cursor.put_all.Goals as goal
-
-pub of-standing-requires : goal.of-standing-requires
-of-standing-requires c = (formed-memory _ c.requires).whole
 
 pub loop-row-init : goal.loop-row-init
 loop-row-init c =

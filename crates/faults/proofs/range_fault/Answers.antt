@@ -1,9 +1,0 @@
--- The search at each label is the definition's.
-use Prim.Native.Nat.{◌+◌, ◌*◌}
-use Rattle.std.proofs.Common.{of_calls}
-use Rattle.block.specs.Reader.{label_fault, range_fault}
-use Rattle.faults.proofs.range_fault.Goals as goal
-
-pub returns : goal.returns
-unfolding range_fault
-returns c = c.first_between.ensures (λ k. label_fault c.args.block.now (c.args.run.start + 4 * k)) (λ k r l m e. search of_calls)

@@ -1,0 +1,2 @@
+-- What the contract of `free_slots` cites.
+pub mod Entries

@@ -1,4 +1,0 @@
--- The laws that the proofs of several functions cite.
-pub mod Answers
-pub mod Words
-pub mod Sorts

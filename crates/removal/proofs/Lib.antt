@@ -1,2 +1,0 @@
--- The laws of the removals.
-pub mod RemovalLaws
