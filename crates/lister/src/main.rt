@@ -54,7 +54,8 @@ fn pump<R: Read, W: Write>(
 {
     let mut state = report::start_state();
     let mut input = streams::nothing_read();
-    // Kept: the state says when the sheet is whole, and no iterator can lend the memory and the buffers to each step.
+    // Kept: the state says when the sheet is whole, and no iterator can lend the memory and the buffers to each step. And the two errors by
+    // their arms: `map_err` would take a closure for each, which says no more than the arm.
     while !report::finished(state) {
         let next = match streams::refill(clock, reader, bytes, input) {
             Ok(next) => next,
