@@ -63,8 +63,9 @@ fn opening_cases() -> [(u64, Act); 16] {
     ]
 }
 
-// Containers and then policies: each refusal that their blocks meet, and what stands at the limits.
-fn entry_cases() -> [(u64, Act); 23] {
+// Containers: each refusal that their blocks meet, and what stands at the limits.
+// Kept: the lists of containers and of policies share no case, and as one they would be longer than a function may be.
+fn container_cases() -> [(u64, Act); 13] {
     [
         (17, Act::Admit(samples::settings(1, 2))),
         (18, Act::Admit(samples::container(8, 1))),
@@ -94,6 +95,13 @@ fn entry_cases() -> [(u64, Act); 23] {
             Act::Admit(samples::with_byte(samples::container(2, 3), 509, 1)),
         ),
         (29, Act::Admit(samples::spoiled(samples::container(2, 3)))),
+    ]
+}
+
+// Policies: the same.
+// Kept: as at `container_cases`.
+fn policy_cases() -> [(u64, Act); 10] {
+    [
         (30, Act::Admit(samples::policy(1, 4, 0, 1))),
         (31, Act::Admit(samples::policy(2, 5, 0, 1))),
         (32, Act::Admit(samples::policy(2, 0, 5, 1))),
@@ -246,8 +254,8 @@ fn show_batch(
         taken: 2,
         refused: u64::MAX,
     };
-    let lent = &mut numbers[..room.min(2)];
-    let answer = registry_c::bihokura_admit_batch(memory, blocks, lent, &mut tally);
+    let list = &mut numbers[..room.min(2)];
+    let answer = registry_c::bihokura_admit_batch(memory, blocks, list, &mut tally);
     show(rt, case, answer)?;
     line(rt, case, u64::from(numbers[0]), u64::from(numbers[1]))?;
     line(rt, case, tally.taken, tally.refused)
@@ -290,7 +298,8 @@ fn run_each(rt: &impl Print, memory: &mut [u64], cases: &[(u64, Act)]) -> io::Re
 
 fn run_all(rt: &impl Print, memory: &mut [u64]) -> io::Result<()> {
     run_each(rt, memory, &opening_cases())?;
-    run_each(rt, memory, &entry_cases())?;
+    run_each(rt, memory, &container_cases())?;
+    run_each(rt, memory, &policy_cases())?;
     run_each(rt, memory, &asking_cases())?;
     run_each(rt, memory, &freeing_cases())?;
     run_each(rt, memory, &filling_cases())?;
