@@ -9,19 +9,30 @@ fn main() {
     println!("cargo:rustc-link-lib=static=registry_c");
     println!("cargo:rerun-if-changed={archive}/libregistry_c.a");
     let source = format!("{here}/src/bin/fast_lister.rs");
-    // without the standard library, which no binary of this package can do, since its panics would unwind
-    compile(&source, "FAST_LISTER", &["--cfg=alone", "-Clto=fat"]);
-    compile(&source, "STATIC_FAST_LISTER", &["-Ctarget-feature=+crt-static", "-Crelocation-model=static"]);
+    let out = var("OUT_DIR").unwrap();
+    // loaded with the C library, as rt links lister
+    let loaded = format!("{out}/fast_lister");
+    compile(&source, &loaded, &[]);
+    println!("cargo:rustc-env=FAST_LISTER={loaded}");
+    // statically, by the flags of bin/link-lister
+    let (library, linked) = (format!("{out}/fast_lister.a"), format!("{out}/static_fast_lister"));
+    compile(&source, &library, &["--crate-type=staticlib", "-Crelocation-model=static"]);
+    let flags = ["-static", "-s", "-no-pie", "-Wl,--gc-sections,-z,noseparate-code,-z,norelro"];
+    run(Command::new("cc").args(flags).args(["-o", &linked, &library]));
+    println!("cargo:rustc-env=STATIC_FAST_LISTER={linked}");
     println!("cargo:rustc-check-cfg=cfg(alone)");
     println!("cargo:rerun-if-changed={source}");
     println!("cargo:rerun-if-changed={here}/src/baseline/blocks.rs");
 }
 
-/// fast_lister, linked as lister is, with the C library alone, and linked statically. A variable has the program's path.
-fn compile(source: &str, variable: &str, flags: &[&str]) {
-    let program = format!("{}/{}", var("OUT_DIR").unwrap(), variable.to_lowercase());
+/// fast_lister with the C library alone, without the standard library, which no binary of this package can do, since its panics would
+/// unwind.
+fn compile(source: &str, made: &str, flags: &[&str]) {
     let mut rustc = Command::new(var("RUSTC").unwrap());
-    rustc.args(["--edition=2021", "-Copt-level=3", "-Cpanic=abort"]).args(flags).args([source, "-o", &program]);
-    assert!(rustc.status().unwrap().success(), "{variable} is not compiled");
-    println!("cargo:rustc-env={variable}={program}");
+    rustc.args(["--edition=2021", "-Copt-level=3", "-Cpanic=abort", "--cfg=alone", "-Clto=fat"]);
+    run(rustc.args(flags).args([source, "-o", made]));
+}
+
+fn run(command: &mut Command) {
+    assert!(command.status().unwrap().success(), "{command:?} failed");
 }

@@ -9,10 +9,11 @@ use std::sync::mpsc::{channel, Receiver, RecvTimeoutError};
 use std::thread::{sleep, spawn, yield_now, JoinHandle};
 use std::time::{Duration, Instant};
 
-/// The program, and the script that runs it and ends with a status.
-pub const PROGRAM: &str = concat!(env!("CARGO_MANIFEST_DIR"), "/../crates/lister/out/lister");
+/// The program, linked statically, and the script that runs it and ends with a status; and the program as rt links it.
+pub const PROGRAM: &str = concat!(env!("CARGO_MANIFEST_DIR"), "/../target/static/lister");
+pub const LINKED_BY_RT: &str = concat!(env!("CARGO_MANIFEST_DIR"), "/../crates/lister/out/lister");
 pub const SCRIPT: &str = concat!(env!("CARGO_MANIFEST_DIR"), "/../bin/lister");
-/// The same in plain Rust, as build.rs compiled it: linked as the program is, and statically.
+/// The same in plain Rust, as build.rs compiled it: linked as rt links the program, and statically.
 pub const FAST: &str = env!("FAST_LISTER");
 pub const FAST_STATIC: &str = env!("STATIC_FAST_LISTER");
 
@@ -22,7 +23,7 @@ pub const LIMIT: Duration = Duration::from_secs(60);
 /// A command, its descriptors 0 to 2 pipes. It leads a group of processes, which can be ended as one.
 pub fn piped(program: &str) -> Command {
     // else the script proves and builds it, which takes minutes
-    assert!(Path::new(PROGRAM).exists(), "{PROGRAM} is not there; bin/lister builds it");
+    assert!(Path::new(PROGRAM).exists(), "{PROGRAM} is not there; bin/link-lister builds it");
     let mut command = Command::new(program);
     command.stdin(Stdio::piped()).stdout(Stdio::piped()).stderr(Stdio::piped()).process_group(0);
     command

@@ -84,29 +84,20 @@ fn wrong_arguments() {
     }
 }
 
-/// The word on descriptor 3 is the program's alone: run by the script, the caller's descriptor 3 gets nothing.
-#[test]
-fn the_caller_s_descriptor_3() {
-    let given = file("descriptor-3", b"");
-    whole(&fed(script(r#"3> "$1""#, &given), &printed()), &printed());
-    assert_eq!(std::fs::read_to_string(&given).unwrap(), "");
-    whole(&fed(script("3>&-", &given), &printed()), &printed());
-}
-
 #[test]
 fn a_closed_standard_error() {
     whole(&fed(script("2>&-", Path::new("")), &begun()), &begun());
     assert_eq!(fed(script("2>&- > /dev/full", Path::new("")), &begun()).code, Some(1));
 }
 
-// ---- the program by itself: what it says of a failure, and that no word comes
+// ---- the program by itself: its status, and what it says of a failure
 
 #[test]
-fn no_word_after_a_failure() {
-    let input = file("no-word", &strangers(100));
-    for redirections in [r#"3>&1 < "$1" > /dev/full"#, r#"3>&1 < "$1" >&-"#, "3>&1 < / > /dev/null", "3>&1 <&- > /dev/null"] {
+fn the_program_s_own_failures() {
+    let input = file("own-failures", &strangers(100));
+    for redirections in [r#"< "$1" > /dev/full"#, r#"< "$1" >&-"#, "< / > /dev/null", "<&- > /dev/null"] {
         let ended = end(redirected(PROGRAM, redirections, &input).spawn().unwrap());
-        assert_eq!(ended.out, "", "{redirections}");
+        assert_eq!((ended.code, &ended.out[..]), (Some(1), ""), "{redirections}");
         let line = ended.err.strip_suffix('\n').unwrap_or_else(|| panic!("{redirections}: no line on standard error"));
         assert!(line.starts_with("lister: ") && !line.contains('\n'), "{redirections}: {line:?}");
     }

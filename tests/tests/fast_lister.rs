@@ -1,6 +1,6 @@
-//! The benchmarks' fast_lister prints what lister prints.
+//! The benchmarks' fast_lister prints what lister prints, and lister the same however it is linked.
 
-use bihokura_tests::process::{end, fed, in_pieces, piped, wait_until_read, FAST, FAST_STATIC, PROGRAM};
+use bihokura_tests::process::{end, fed, in_pieces, piped, wait_until_read, FAST, FAST_STATIC, LINKED_BY_RT, PROGRAM};
 use bihokura_tests::random::{case, seeds, Random};
 use bihokura_tests::registries;
 use bihokura_tests::sheet::{self, expected, printed, spoiled, strangers};
@@ -14,7 +14,7 @@ fn run(program: &str, input: &[u8]) -> String {
 
 fn same(input: &[u8]) {
     let right = run(PROGRAM, input);
-    for program in [FAST, FAST_STATIC] {
+    for program in [LINKED_BY_RT, FAST, FAST_STATIC] {
         let found = run(program, input);
         let line = found.lines().zip(right.lines()).position(|(x, y)| x != y);
         assert!(found == right, "{} bytes of input: differs from line {line:?} on", input.len());

@@ -2,11 +2,10 @@
 
 use bihokura_tests::bytes::{self, container, policy, settings, INGRESS};
 use bihokura_tests::cases;
-use bihokura_tests::process::{end, fed, in_pieces, piped, redirected, rest, wait_until_read, with_lines, LIMIT, PROGRAM};
+use bihokura_tests::process::{end, fed, in_pieces, piped, rest, wait_until_read, with_lines, LIMIT, PROGRAM};
 use bihokura_tests::random::{case, seeds, Random};
 use bihokura_tests::sheet::{self, expected, spoiled, strangers};
 use std::io::Write;
-use std::path::Path;
 
 fn run(input: &[u8]) -> String {
     let ended = fed(piped(PROGRAM).spawn().unwrap(), input);
@@ -56,10 +55,34 @@ fn refused_openings_and_short_blocks() {
     ]);
 }
 
+/// Pieces of nine blocks first, and of 128 from there on.
 #[test]
 fn inputs_around_a_piece_of_input() {
-    for n in [126, 127, 128, 255, 256] {
+    for n in [7, 8, 9, 126, 127, 128, 135, 136, 137, 255, 256] {
         agrees(&entries(n as u64, n));
+    }
+}
+
+/// A first read that fills nine blocks, where the next block is whole, begun, or all that there is.
+#[test]
+fn inputs_that_end_near_the_first_piece() {
+    let input = entries(90, 12).concat();
+    for n in [4607, 4608, 4609, 5119, 5120, 5121] {
+        same(&run(&input[..n]), &input[..n]);
+        for most in [100, 1000, 4608] {
+            same(&run_in_pieces(&mut Random::new(n as u64), &input[..n], most, true), &input[..n]);
+        }
+    }
+}
+
+/// The findings of few blocks are more than the first buffer for text has room for.
+#[test]
+fn few_blocks_and_many_findings() {
+    for n in [2, 3, 4, 5, 6, 7, 8, 9, 20] {
+        let input = strangers(n);
+        same(&run(&input), &input);
+        let input = [opening(), vec![policy(INGRESS, &[], &[(3, 1)]); n].concat()].concat();
+        same(&run(&input), &input);
     }
 }
 
@@ -186,24 +209,4 @@ fn a_refused_opening_comes_at_once() {
     drop(to);
     assert_eq!(rest(&lines), "");
     assert_eq!(end(child).code, Some(0));
-}
-
-/// The report of each sort of input, with descriptor 3 as told, and then this word.
-fn report_and(redirection: &str, word: &str) {
-    for input in [sheet::printed(), vec![], spoiled(), strangers(100)] {
-        let ended = fed(redirected(PROGRAM, redirection, Path::new("")).spawn().unwrap(), &input);
-        assert_eq!((ended.code, &ended.err[..]), (Some(0), ""));
-        same(ended.out.strip_suffix(word).expect("the word at the end"), &input);
-    }
-}
-
-/// Descriptor 3 is another name for standard output.
-#[test]
-fn a_word_comes_after_the_whole_report() {
-    report_and("3>&1", "whole\n");
-}
-
-#[test]
-fn no_word_where_descriptor_3_is_closed() {
-    report_and("3>&-", "");
 }

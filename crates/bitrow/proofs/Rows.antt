@@ -1,9 +1,9 @@
 -- Laws of a row's bits.
 use mathlib.Core.Path.{◌≡◌, refl, sym, ap, ap₂, ◌∙◌, fun_ext}
-use mathlib.Core.Bool.{Bool, true, false, not, ◌&&◌, ◌||◌, or_comm, and_comm, and-eq-true_iff}
+use mathlib.Core.Bool.{Bool, false, not, ◌&&◌, ◌||◌, cond, or_comm}
 use mathlib.Core.List.{List, [], ◌∷◌}
 use Prim.Native.Nat.{ℕ, zero, suc, ◌+◌, ◌-◌, ◌*◌, ◌/◌, ◌%◌, ◌^◌, ◌≤◌, ◌<◌}
-use native.Mathlib.Nat.{mod-lt, zero-add, lt_of_le_of_lt}
+use native.Mathlib.Nat.{zero-add, lt_of_le_of_lt}
 use native.Mathlib.Decide.{dec_lt, ℕ_discrete}
 use native.Mathlib.Omega.{arith}
 use lib.Arith.{digits_mod, digits_div}
@@ -16,7 +16,7 @@ use lib.ListN.{length, get_or, set, get_or-eq_default}
 use lib.Seq.{get_or-set_same, get_or-set_other, ext_get_or}
 use borrow.Author.Tests.{eq-eqb, ne_eqb, eqb-true, not-true}
 use Rattle.bitrow.specs.Bit.{bit, bit_at, Row}
-use Rattle.bitrow.specs.Set.{nothing, under, insert, remove, meet, join, less, Bounded, has_some, equal, size, Lowest}
+use Rattle.bitrow.specs.Set.{nothing, under, insert, meet, join, less, Bounded, has_some, equal, size, Lowest}
 use Rattle.bitrow.proofs.Sets.{point, nothing-at, under-in, under-out, bounded-nothing, bounded-under, bounded-meet-left, bounded-meet-right, bounded-join, bounded-less, bounded-ext}
 use Rattle.bitrow.proofs.Tests.{same_test, has_some-clear, has_some-absent, equal-in, equal-self}
 use Rattle.bitrow.proofs.Sizes.{size-cong, size-add, size-le}
@@ -160,18 +160,35 @@ pub insert-bit : (w i : ℕ) → bit (bit_or w (bit_mask i)) ≡ insert (i % 64)
 unfolding insert
 insert-bit w i = fun_ext (λ m. bit-or w (bit_mask i) m ∙ or_comm (bit w m) (bit (bit_mask i) m) ∙ ap (λ (b : Bool). b || bit w m) (mask-bit i m))
 
--- i put into word i / 64, and `r[i / 64] &= !(1 << (i % 64))`
+-- i put into word i / 64
 pub insert-row : (r : List ℕ) (i v : ℕ) → length r ≡ 4 → i < 256 → bit v ≡ insert (i % 64) (bit (get_or r (i / 64) 0)) → bit_at (set r (i / 64) v) ≡ insert i (bit_at r)
 unfolding insert
 insert-row r i v n h e = fun_ext (set-row (λ x y. x || y) (λ b. refl) r i v (omega arith) (λ m l. point e m))
 
-pub remove-row : (r : List ℕ) (i : ℕ) → Row r → i < 256 → bit_at (set r (i / 64) (bit_and (get_or r (i / 64) 0) (full - bit_mask i))) ≡ remove i (bit_at r)
-unfolding remove
-remove-row r i p h =
-    let w = get_or r (i / 64) 0 in
-    fun_ext (set-row (λ x y. not x && y) (λ b. refl) r i (bit_and w (full - bit_mask i)) (omega (arith, p.four)) (λ m l.
-    bit-and w (full - bit_mask i) m ∙ and_comm (bit w m) (bit (full - bit_mask i) m)
-    ∙ ap (λ (b : Bool). b && bit w m) (bit_not 64 (bit_mask i) m (mod-lt (1 * 2 ^ (i % 64)) (pow_pos 64)) l ∙ ap not (mask-bit i m))))
+-- ---- a row of one number
+
+-- word k of it
+abbrev pub OnlyAt : ℕ → ℕ → ℕ → Type 0
+OnlyAt i k w = bit w ≡ cond (eqb (i / 64) k) (insert (i % 64) nothing) nothing
+
+pub only-row : (i a b c d : ℕ) → i < 256 → OnlyAt i 0 a → OnlyAt i 1 b → OnlyAt i 2 c → OnlyAt i 3 d → bit_at (a ∷ b ∷ c ∷ d ∷ []) ≡ insert i nothing
+unfolding insert nothing
+only-row i a b c d h e f g k =
+    words_are (a ∷ b ∷ c ∷ d ∷ []) (insert i nothing) refl (record { clear = λ j q. ap (λ x. x || false) (ne_eqb j i (λ z. omega arith)) })
+    (four-words _ (word 0 a e) (word 1 b f) (word 2 c g) (word 3 d k))
+  where
+    same : (k m : ℕ) → m < 64 → i / 64 ≡ k → Dec (m ≡ i % 64) → eqb m (i % 64) ≡ eqb (k * 64 + m) i
+    same k m u z (yes p) = eq-eqb m (i % 64) p ∙ sym (eq-eqb (k * 64 + m) i (omega arith))
+    same k m u z (no p) = ne_eqb m (i % 64) p ∙ sym (ne_eqb (k * 64 + m) i (λ y. p (omega arith)))
+
+    word : (k w : ℕ) → OnlyAt i k w → (m : ℕ) → m < 64 → bit w m ≡ insert i nothing (k * 64 + m)
+    word k w q m u = point q m ∙ go (ℕ_discrete (i / 64) k)
+      where
+        go : Dec (i / 64 ≡ k) → cond (eqb (i / 64) k) (insert (i % 64) nothing) nothing m ≡ (eqb (k * 64 + m) i || false)
+        go (yes z) = ap (λ (t : Bool). cond t (insert (i % 64) nothing) nothing m) (eq-eqb (i / 64) k z) ∙ ap (λ x. x || false) (same k m u z (ℕ_discrete m (i % 64)))
+        go (no z) =
+            ap (λ (t : Bool). cond t (insert (i % 64) nothing) nothing m) (ne_eqb (i / 64) k z)
+            ∙ sym (ap (λ (x : Bool). x || false) (ne_eqb (k * 64 + m) i (λ y. z (omega arith))))
 
 -- ---- tests
 

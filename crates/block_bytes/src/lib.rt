@@ -22,10 +22,10 @@ pub fn number_at(block: &[u8], at: usize) -> u64
     u64::from(u16::from_be_bytes([block[at], block[at + 1]]))
 }
 
-// The sum over the first `end` bytes of byte times (its position + 1).
+// The sum over the first `end` bytes of byte times (its position + 1), in 32 bits, where it finds room.
 // Kept: the end beside the block, as at `checksum_to`; and a counter: a `zip` with
 // the places would be no plainer, since the sum's law is over the bytes, and a zip yields pairs.
-fn weighted_sum(block: &[u8; 512], end: usize) -> u64
+fn weighted_sum(block: &[u8; 512], end: usize) -> u32
     requires { end ≤ 510 }
     ensures { result ≡ weighted block.now end }
 {
@@ -33,7 +33,7 @@ fn weighted_sum(block: &[u8; 512], end: usize) -> u64
     let mut place = 0;
     for &byte in &block[..end] {
         place += 1;
-        sum += u64::from(byte) * place;
+        sum += u32::from(byte) * place;
     }
     sum
 }
@@ -68,9 +68,9 @@ pub fn checksum_to(block: &[u8; 512], end: usize) -> u64
     ensures { result ≡ checksum block.now }
 {
     if end == 36 {
-        return weighted_sum(block, 36) % 65521;
+        return u64::from(weighted_sum(block, 36) % 65521);
     }
-    weighted_sum(block, 510) % 65521
+    u64::from(weighted_sum(block, 510) % 65521)
 }
 
 pub fn checksum(block: &[u8; 512]) -> u64

@@ -36,7 +36,7 @@ pub fn tell_counts(memory: &[u64], out: &mut [u8]) -> Told
 
 // Puts the lines of the findings after the cursor, as many as there are numbers lent for them.
 fn tell_findings_by(memory: &[u64], numbers: &mut [u64], out: &mut [u8], cursor: Cursor) -> Told
-    requires { 23 * length numbers.old ≤ length out.old }
+    requires { 10 * length numbers.old ≤ length out.old }
     ensures { Tells (listing (length numbers.old) (memory_step memory.now (ask (list_findings (cursor_place cursor) (length numbers.old)))).1) out.old out.new result }
 {
     let wanted = numbers.len();
@@ -46,7 +46,7 @@ fn tell_findings_by(memory: &[u64], numbers: &mut [u64], out: &mut [u8], cursor:
             put: 0,
         };
     };
-    let put = text::put_findings(out, &numbers[..found.count]);
+    let put = finding_lines::put_findings(out, &numbers[..found.count]);
     if found.count < wanted {
         return Told {
             state: State::Finished,
@@ -60,12 +60,14 @@ fn tell_findings_by(memory: &[u64], numbers: &mut [u64], out: &mut [u8], cursor:
 }
 
 // Puts the lines of the findings after the cursor, as many as find room.
+// Kept: out of line: its numbers and what `intake::feed_blocks` keeps on the stack lie at one place then, since neither calls the other.
+#[inline(never)]
 #[tactic(auto, unfolding(sheets::specs::Closing::list_step))]
 pub fn tell_findings(memory: &[u64], out: &mut [u8], cursor: Cursor) -> Told
     requires { 128 ≤ length out.old }
     ensures { Tells (list_step memory.now (length out.old) cursor) out.old out.new result }
 {
-    let mut numbers = [0; 2048];
+    let mut numbers = [0; 7168];
     let lines = cuts::lines_in(out.len());
     tell_findings_by(memory, &mut numbers[..lines], out, cursor)
 }

@@ -2,5 +2,9 @@
 pub mod Standing
 pub mod KindRows
 pub mod Gathered
+mod Narrowing
+mod Columns
 mod ContainerWords
 mod ContainerRows
+mod SlotLaws
+mod UserLaws

@@ -1,2 +1,3 @@
 -- What the contracts of `container_findings` cite.
 pub mod Rows
+pub mod Views

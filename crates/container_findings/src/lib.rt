@@ -1,16 +1,42 @@
 // The findings over containers: kinds 1 to 4.
 #![tactic(auto)]
 
-ghost use Rattle.std.specs.Prelude.{◌≡◌, ◌<◌, cond};
+ghost use Rattle.std.specs.Prelude.{◌≡◌, true, List, ℕ, ◌<◌};
 ghost use Rattle.bitrow.specs.Bit.{bit_at};
-ghost use Rattle.bitrow.specs.Set.{meet, part};
+ghost use Rattle.bitrow.specs.Set.{meet, under};
 ghost use Rattle.model.specs.Kinds.{kind_number};
-ghost use Rattle.formed.specs.Registry.{bits_in, EntriesFormed};
-ghost use Rattle.container_findings.specs.Rows.{shown_at, containers_stand, zero_if, column_as, with_user, AtContainer};
+ghost use Rattle.formed.specs.Registry.{EntriesFormed};
+ghost use Rattle.container_findings.specs.Rows.{shown_at, containers_stand, zero_if, AtContainer};
+ghost use Rattle.container_findings.specs.Views.{of_user, OwnWords, places_of, UsersOf, ContainersSeen, SlotsOfKind};
 
 use model::Kind;
-use row_members::Members;
 use store::Words;
+
+// The users, as far as they were asked for. If `told` is set, `own` has each container's word under the user key, 0 where it has none. At each
+// place is the word of one user, or 0, and the row of the standing containers with that word. A user's place is told by the word alone, and a
+// user who finds another one there takes the place.
+// Kept: a flag beside the array, since an Option of it would be copied as it is filled; and two arrays, since a user is looked up by the words
+// alone.
+#[derive(Drop)]
+pub struct Users {
+    pub told: bool,
+    pub own: [u64; 256],
+    pub words: [u64; 64],
+    pub rows: [[u64; 4]; 64],
+}
+
+// What the findings over containers are worked out from, made once for a listing: the standing containers, the users met so far, and if `told` is
+// set those that every container reaches and those that none reaches.
+// Of its 4.6 KiB none is copied: it is made where it is kept, and lent.
+// Kept: a flag: before it is set the two rows are empty, and say nothing.
+#[derive(Drop)]
+pub struct ContainerView {
+    pub standing: [u64; 4],
+    pub told: bool,
+    pub by_all: [u64; 4],
+    pub by_none: [u64; 4],
+    pub users: Users,
+}
 
 fn zero_if(t: bool) -> [u64; 4]
     ensures { bit_at result ≡ zero_if t }
@@ -22,52 +48,131 @@ fn zero_if(t: bool) -> [u64; 4]
     }
 }
 
-// Whether the bit to a is as wanted in the rows of all containers of a set.
-fn column_is(memory: &Words, set: [u64; 4], a: usize, wanted: bool) -> bool
-    requires { a < 256 }
-    ensures { result ≡ part (bit_at set) (column_as (bits_in memory.now) a wanted) }
-{
-    Members::of(set).all(|c| {
-        let word = memory[store::ROWS + store::ROW_WORDS * c + a / 64];
-        bitrow::bit_of(word, a) == wanted
-    })
-}
-
-// 1. All reachable, where the bit to a is wanted of every container. 2. All isolated, where it is wanted of none.
-// Kept: `AtContainer` over a row and a slot. It speaks of the memory that is lent, so a struct of the two would hold that as a
-// ghost, and each call would show beside it that it is lent the same memory.
-fn column_row(memory: &Words, containers: [u64; 4], a: usize, wanted: bool) -> [u64; 4]
-    requires { AtContainer memory.now containers a }
-    ensures { bit_at result ≡ shown_at memory.now (cond wanted 1 2) a }
-{
-    zero_if(column_is(memory, containers, a, wanted))
-}
-
-// Those of a set whose word under the user key is this one.
-fn same_user(memory: &Words, set: [u64; 4], word: u64) -> [u64; 4]
+// The word of each container under the user key.
+fn look_up(memory: &Words, own: &mut [u64; 256])
     requires { EntriesFormed memory.now }
-    ensures { bit_at result ≡ meet (bit_at set) (with_user memory.now word) }
+    ensures { OwnWords memory.now 256 own.new }
 {
     let key = memory[0];
-    let mut chosen = row_sets::none();
-    for c in Members::of(set) {
-        if entry_labels::word_under(memory, store::CONTAINERS + store::CONTAINER_WORDS * c, key)
-            == word
-        {
-            let next = row_sets::with(chosen, c);
-            chosen = next;
+    for c in 0..store::CONTAINER_SLOTS {
+        let at = store::CONTAINERS + store::CONTAINER_WORDS * c;
+        own[c] = entry_labels::word_under(memory, at, key);
+    }
+}
+
+// The places at which this word stands.
+fn places_of(own: &[u64; 256], word: u64) -> [u64; 4]
+    ensures { bit_at result ≡ meet (places_of own.now word) (under 256) }
+{
+    [
+        stored::slots_with(own, 0, 1, word),
+        stored::slots_with(own, 64, 1, word),
+        stored::slots_with(own, 128, 1, word),
+        stored::slots_with(own, 192, 1, word),
+    ]
+}
+
+impl Users {
+    pub fn none() -> Users
+        ensures { (m : List ℕ) → UsersOf m result }
+    {
+        Users {
+            told: false,
+            own: [0; 256],
+            words: [0; 64],
+            rows: [[0; 4]; 64],
         }
     }
-    chosen
+
+    // The words of all containers are told, once.
+    fn tell(&mut self, memory: &Words)
+        requires { EntriesFormed memory.now × UsersOf memory.now self.old }
+        ensures own { OwnWords memory.now 256 self.new.own }
+        ensures users { UsersOf memory.now self.new }
+    {
+        if !self.told {
+            look_up(memory, &mut self.own);
+            self.told = true;
+        }
+    }
+
+    // The standing containers of the user with this word, worked out once as long as no other user takes the place.
+    // Kept: the cast, since a label is a word of memory and std has no `From` from u64 to usize; what is cast is below 64.
+    fn containers_of(&mut self, memory: &Words, standing: [u64; 4], word: u64) -> [u64; 4]
+        requires standing { EntriesFormed memory.now × (bit_at standing ≡ containers_stand memory.now) }
+        requires users { UsersOf memory.now self.old }
+        requires user { 0 < word }
+        ensures row { bit_at result ≡ of_user memory.now word }
+        ensures users { UsersOf memory.now self.new }
+    {
+        let place = (word % 64) as usize;
+        if self.words[place] == word {
+            return self.rows[place];
+        }
+        self.tell(memory);
+        let row = row_sets::both(standing, places_of(&self.own, word));
+        self.words[place] = word;
+        self.rows[place] = row;
+        row
+    }
+}
+
+impl ContainerView {
+    // Nothing is told yet but which containers stand.
+    pub fn of(standing: [u64; 4]) -> ContainerView
+        ensures { (m : List ℕ) → bit_at standing ≡ containers_stand m → ContainersSeen m result }
+    {
+        ContainerView {
+            standing,
+            told: false,
+            by_all: [0; 4],
+            by_none: [0; 4],
+            users: Users::none(),
+        }
+    }
+
+    // Those that every container reaches and those that none reaches are told, once: in one pass over the rows of the standing containers,
+    // by those that each of them has, and those that any has.
+    pub fn tell(&mut self, memory: &Words)
+        requires { EntriesFormed memory.now × ContainersSeen memory.now self.old }
+        ensures told { self.new.told ≡ true }
+        ensures view { ContainersSeen memory.now self.new }
+        ensures kept { self.new.standing ≡ self.old.standing }
+    {
+        if self.told {
+            return;
+        }
+        let standing = self.standing;
+        let mut by_all = standing;
+        let mut by_any = row_sets::none();
+        for c in 0..store::CONTAINER_SLOTS {
+            if !row_sets::has(standing, c) {
+                continue;
+            }
+            let row = access::row_at(memory, c);
+            let all = row_sets::both(by_all, row);
+            by_all = all;
+            let any = row_sets::either(by_any, row);
+            by_any = any;
+        }
+        let by_none = row_sets::except(standing, by_any);
+        self.by_all = by_all;
+        self.by_none = by_none;
+        self.told = true;
+    }
 }
 
 // 3. User cross. A container without the user key is a stranger to all others.
-fn user_cross(memory: &Words, containers: [u64; 4], a: usize) -> [u64; 4]
-    requires { AtContainer memory.now containers a }
-    ensures { bit_at result ≡ shown_at memory.now 3 a }
+// Kept: `AtContainer` over a row and a slot. It speaks of the memory that is lent, so a struct of the two would hold that as a
+// ghost, and each call would show beside it that it is lent the same memory.
+fn user_cross(memory: &Words, standing: [u64; 4], users: &mut Users, a: usize) -> [u64; 4]
+    requires at { AtContainer memory.now standing a }
+    requires users { UsersOf memory.now users.old }
+    ensures row { bit_at result ≡ shown_at memory.now 3 a }
+    ensures users { UsersOf memory.now users.new }
 {
     let reached = access::row_at(memory, a);
-    let others = row_sets::without(row_sets::both(containers, reached), a);
+    let others = row_sets::without(row_sets::both(standing, reached), a);
     let word = entry_labels::word_under(
         memory,
         store::CONTAINERS + store::CONTAINER_WORDS * a,
@@ -76,12 +181,13 @@ fn user_cross(memory: &Words, containers: [u64; 4], a: usize) -> [u64; 4]
     if word == 0 {
         return others;
     }
-    row_sets::except(others, same_user(memory, others, word))
+    let own = users.containers_of(memory, standing, word);
+    row_sets::except(others, own)
 }
 
 // 4. System isolation. With no system label set there are none.
-fn system_isolation(memory: &Words, containers: [u64; 4], a: usize) -> [u64; 4]
-    requires { AtContainer memory.now containers a }
+fn system_isolation(memory: &Words, standing: [u64; 4], a: usize) -> [u64; 4]
+    requires { AtContainer memory.now standing a }
     ensures { bit_at result ≡ shown_at memory.now 4 a }
 {
     let key = memory[1];
@@ -93,22 +199,45 @@ fn system_isolation(memory: &Words, containers: [u64; 4], a: usize) -> [u64; 4]
         return row_sets::none();
     }
     let reached = access::row_at(memory, a);
-    row_sets::except(row_sets::without(containers, a), reached)
+    row_sets::except(row_sets::without(standing, a), reached)
 }
 
-// The findings of a kind over containers at a, as the row of all b.
-pub fn container_row(memory: &Words, containers: [u64; 4], kind: Kind, a: usize) -> [u64; 4]
-    requires { EntriesFormed memory.now × (bit_at containers ≡ containers_stand memory.now) × (a < 256) × (kind_number kind < 5) }
-    ensures { bit_at result ≡ shown_at memory.now (kind_number kind) a }
+// The slots at which there can be a finding of this kind; there is none at any other. Of kinds 1 and 2 these are all containers until those
+// that they tell of are told.
+pub fn container_slots(memory: &Words, view: &ContainerView, kind: Kind) -> [u64; 4]
+    requires { EntriesFormed memory.now × ContainersSeen memory.now view.now × (kind_number kind < 5) }
+    ensures { SlotsOfKind memory.now (kind_number kind) result }
 {
-    if !row_sets::has(containers, a) {
+    match kind {
+        Kind::AllReachable if view.told => view.by_all,
+        Kind::AllIsolated if view.told => view.by_none,
+        Kind::SystemIsolation if memory[1] == 0 => row_sets::none(),
+        _ => view.standing,
+    }
+}
+
+// The findings of a kind over containers at a, as the row of all b. What the view is asked for first is told in it.
+pub fn container_row(memory: &Words, view: &mut ContainerView, kind: Kind, a: usize) -> [u64; 4]
+    requires { EntriesFormed memory.now × ContainersSeen memory.now view.old × (a < 256) × (kind_number kind < 5) }
+    ensures row { bit_at result ≡ shown_at memory.now (kind_number kind) a }
+    ensures view { ContainersSeen memory.now view.new }
+    ensures kept { view.new.standing ≡ view.old.standing }
+{
+    let standing = view.standing;
+    if !row_sets::has(standing, a) {
         return row_sets::none();
     }
     match kind {
-        Kind::AllReachable => column_row(memory, containers, a, true),
-        Kind::AllIsolated => column_row(memory, containers, a, false),
-        Kind::UserCross => user_cross(memory, containers, a),
-        Kind::SystemIsolation => system_isolation(memory, containers, a),
+        Kind::AllReachable => {
+            view.tell(memory);
+            zero_if(row_sets::has(view.by_all, a))
+        }
+        Kind::AllIsolated => {
+            view.tell(memory);
+            zero_if(row_sets::has(view.by_none, a))
+        }
+        Kind::UserCross => user_cross(memory, standing, &mut view.users, a),
+        Kind::SystemIsolation => system_isolation(memory, standing, a),
         Kind::Shadow | Kind::Conflict | Kind::Irrelevance => unreachable!(),
     }
 }
@@ -117,15 +246,17 @@ pub fn container_row(memory: &Words, containers: [u64; 4], kind: Kind, a: usize)
 // Kept: `number: usize`: the promise is of any number (a rule), also of one that is no kind; of a `Kind` it is `container_row`.
 pub fn container_row_numbered(
     memory: &Words,
-    containers: [u64; 4],
+    view: &mut ContainerView,
     number: usize,
     a: usize,
 ) -> [u64; 4]
-    requires { EntriesFormed memory.now × (bit_at containers ≡ containers_stand memory.now) × (a < 256) × (number < 5) }
-    ensures { bit_at result ≡ shown_at memory.now number a }
+    requires { EntriesFormed memory.now × ContainersSeen memory.now view.old × (a < 256) × (number < 5) }
+    ensures row { bit_at result ≡ shown_at memory.now number a }
+    ensures view { ContainersSeen memory.now view.new }
+    ensures kept { view.new.standing ≡ view.old.standing }
 {
     match Kind::numbered(number) {
-        Some(kind) => container_row(memory, containers, kind, a),
+        Some(kind) => container_row(memory, view, kind, a),
         None => row_sets::none(),
     }
 }

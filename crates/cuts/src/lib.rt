@@ -22,9 +22,9 @@ pub fn waits(bytes: usize, ended: bool) -> bool
 #[tactic(auto, unfolding(sheets::specs::Closing::lines_in))]
 pub fn lines_in(room: usize) -> usize
     ensures value { result ≡ lines_in room }
-    ensures upper_bound { (result ≤ 2048) × (23 * result ≤ room) }
+    ensures upper_bound { (result ≤ 7168) × (10 * result ≤ room) }
 {
-    (room / 23).min(2048)
+    (room / 10).min(7168)
 }
 
 // How many whole blocks of so many bytes a step takes at once after n others, in a buffer of so many bytes.

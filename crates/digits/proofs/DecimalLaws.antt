@@ -34,17 +34,9 @@ decimal-short : (k n : ℕ) → n < 10 ^ suc k → length (decimal n) ≤ suc k
 unfolding decimal
 decimal-short = short-by 19
 
-pub within_5 : (n : ℕ) → n < 65536 → length (decimal n) ≤ 5
-within_5 n h = decimal-short 4 n (omega (arith, h))
-
-pub within_10 : (n : ℕ) → n < 2 ^ 32 → length (decimal n) ≤ 10
-within_10 n h = decimal-short 9 n (omega (arith, h))
-
+-- a number of 64 bits has 20 digits at most
 pub within_20 : (n : ℕ) → n < 2 ^ 64 → length (decimal n) ≤ 20
 within_20 n h = decimal-short 19 n (omega (arith, h))
-
--- how many digits a number of 16, 32 or 64 bits has at most
-pub ruleset widths = (within_5, within_10, within_20)
 
 -- ---- numbers of any length, the last digit apart
 

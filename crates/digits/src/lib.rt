@@ -52,7 +52,7 @@ fn put_digits(out: &mut [u8], n: u64) -> usize
 }
 
 // Puts a number in decimal and then a byte.
-#[tactic(auto, using(crate::proofs::DecimalLaws::widths))]
+#[tactic(auto, using(crate::proofs::DecimalLaws::within_20))]
 pub fn put_decimal(out: &mut [u8], n: u64, end: u8) -> usize
     requires { length (decimal n) < length out.old }
     ensures puts { Puts out.old 0 (ended (decimal n) end) out.new result }

@@ -1,2 +1,3 @@
 -- What the contracts of `finding_rows` cite.
-pub mod Standing
+pub mod View
+pub mod Slots

@@ -4,60 +4,88 @@
 ghost use Rattle.std.specs.Prelude.{◌≡◌, true, ◌<◌};
 ghost use Rattle.bitrow.specs.Bit.{bit_at};
 ghost use Rattle.model.specs.Kinds.{kind_number};
-ghost use Rattle.formed.specs.Registry.{well_formed};
+ghost use Rattle.formed.specs.Registry.{well_formed, EntriesFormed};
 ghost use Rattle.container_findings.specs.Rows.{shown_at};
-ghost use Rattle.finding_rows.specs.Standing.{StandingIn};
+ghost use Rattle.finding_rows.specs.View.{ViewOf};
+ghost use Rattle.finding_rows.specs.Slots.{SlotsOf};
 
+use container_findings::ContainerView;
 use model::Kind;
+use policy_findings::PolicyView;
 use store::Words;
 
-// The standing slots of both tables, as rows: worked out once for a listing.
-#[derive(Clone, Copy)]
-pub struct Standing {
-    pub containers: [u64; 4],
-    pub policies: [u64; 4],
+// What findings are worked out from beside the memory: made once for a listing, and lent for each row, which may fill what it is the first
+// to ask for.
+// Of its 8.7 KiB none is copied.
+#[derive(Drop)]
+pub struct View {
+    pub containers: ContainerView,
+    pub policies: PolicyView,
 }
 
-impl Standing {
-    pub fn of(memory: &Words) -> Standing
-        ensures { StandingIn memory.now result }
+impl View {
+    // `many`: whether so many findings are asked for that what is told of all containers at once, and the table of policies, are worth it.
+    pub fn of(memory: &Words, many: bool) -> View
+        requires { EntriesFormed memory.now }
+        ensures { ViewOf memory.now result }
     {
-        Standing {
-            containers: stored::standing::<model::ContainerSlot>(memory),
-            policies: stored::standing::<model::PolicySlot>(memory),
+        let mut containers = ContainerView::of(stored::standing::<model::ContainerSlot>(memory));
+        if many {
+            containers.tell(memory);
         }
+        let policies = stored::standing::<model::PolicySlot>(memory);
+        View {
+            containers,
+            policies: PolicyView::of(memory, policies, many),
+        }
+    }
+
+    // For each kind's number the slots at which there can be a finding of it; none for 0, which is no kind.
+    pub fn slots(&self, memory: &Words) -> [[u64; 4]; 8]
+        requires { EntriesFormed memory.now × ViewOf memory.now self.now }
+        ensures { SlotsOf memory.now result }
+    {
+        let containers = &self.containers;
+        let policies = policy_findings::policy_slots(&self.policies);
+        [
+            [0; 4],
+            container_findings::container_slots(memory, containers, Kind::AllReachable),
+            container_findings::container_slots(memory, containers, Kind::AllIsolated),
+            container_findings::container_slots(memory, containers, Kind::UserCross),
+            container_findings::container_slots(memory, containers, Kind::SystemIsolation),
+            policies,
+            policies,
+            policies,
+        ]
     }
 }
 
 // The findings of one kind at a, as the row of all b.
-pub fn finding_row(memory: &Words, standing: &Standing, kind: Kind, a: usize) -> [u64; 4]
-    requires { (well_formed memory.now ≡ true) × StandingIn memory.now standing.now × (a < 256) }
-    ensures { bit_at result ≡ shown_at memory.now (kind_number kind) a }
+pub fn finding_row(memory: &Words, view: &mut View, kind: Kind, a: usize) -> [u64; 4]
+    requires { (well_formed memory.now ≡ true) × ViewOf memory.now view.old × (a < 256) }
+    ensures row { bit_at result ≡ shown_at memory.now (kind_number kind) a }
+    ensures view { ViewOf memory.now view.new }
 {
     match kind {
         Kind::AllReachable | Kind::AllIsolated | Kind::UserCross | Kind::SystemIsolation => {
-            container_findings::container_row(memory, standing.containers, kind, a)
+            container_findings::container_row(memory, &mut view.containers, kind, a)
         }
         Kind::Shadow | Kind::Conflict | Kind::Irrelevance => {
-            policy_findings::policy_row(memory, standing.policies, kind, a)
+            policy_findings::policy_row(memory, &mut view.policies, kind, a)
         }
     }
 }
 
 // The findings at a of the kind of this number, as the row of all b; of a number that is no kind there are none.
 // Kept: `number: usize`: the promise is of any number (a rule), also of one that is no kind; of a `Kind` it is `finding_row`.
-pub fn finding_row_numbered(
-    memory: &Words,
-    standing: &Standing,
-    number: usize,
-    a: usize,
-) -> [u64; 4]
-    requires { (well_formed memory.now ≡ true) × StandingIn memory.now standing.now × (a < 256) }
-    ensures { bit_at result ≡ shown_at memory.now number a }
+pub fn finding_row_numbered(memory: &Words, view: &mut View, number: usize, a: usize) -> [u64; 4]
+    requires { (well_formed memory.now ≡ true) × ViewOf memory.now view.old × (a < 256) }
+    ensures row { bit_at result ≡ shown_at memory.now number a }
+    ensures view { ViewOf memory.now view.new }
 {
     if number < 5 {
-        container_findings::container_row_numbered(memory, standing.containers, number, a)
+        container_findings::container_row_numbered(memory, &mut view.containers, number, a)
     } else {
-        policy_findings::policy_row_numbered(memory, standing.policies, number, a)
+        policy_findings::policy_row_numbered(memory, &mut view.policies, number, a)
     }
 }

@@ -16,9 +16,10 @@ use Rattle.model.specs.Findings.{Place, finding, shown, place_of, next_after, wa
 use Rattle.model.proofs.Next.{Least, NoneAfter, shown-is, shown-none, is-shown}
 use Rattle.formed.specs.Registry.{model_in, bits_in}
 use Rattle.findings.specs.Steps.{place_from}
+use Rattle.findings.specs.RowSteps.{row_number}
 use Rattle.container_findings.specs.Rows.{shown_at}
 use Rattle.row_listing.specs.Listing.{members, row_findings}
-use Rattle.findings.proofs.Walk.{SmallPlace, Come, there_in, sized-there, come-start, come-found, come-skip, come-row, come-kind, come-end}
+use Rattle.findings.proofs.Walk.{SmallPlace, Come, there_in, sized-there, come-start, come-found, come-skip, come-row, come-later, come-end}
 use Rattle.findings.proofs.Inside.{shown-inside}
 use Rattle.row_listing.proofs.Members.{members-cut}
 
@@ -63,8 +64,9 @@ module _ (m : List ℕ) (p : Place) (s : SmallPlace p) where
   reached-row : (k a from : ℕ) → ComeIn m p k a from → a < 256 → 256 ≤ from → ComeIn m p k (a + 1) 0
   reached-row = come-row (shown_at m) (shown-inside m) p s
 
-  reached-kind : (k a from : ℕ) → ComeIn m p k a from → ((0 < k) → 256 ≤ a) → ComeIn m p (k + 1) 0 0
-  reached-kind = come-kind (shown_at m) (shown-inside m) p s
+  reached-later : (k a from j b : ℕ) → ComeIn m p k a from → k ≤ j → (j ≡ k → a < b) → b ≤ 65536
+      → ((x y z : ℕ) → shown_at m x y z ≡ true → row_number k a ≤ row_number x y → row_number x y < row_number j b → ⊥) → ComeIn m p j b 0
+  reached-later = come-later (shown_at m) (shown-inside m) p s
 
   reached-end : (k a from : ℕ) → ComeIn m p k a from → 8 ≤ k → next_in m p ≡ none
   reached-end k a from c h =
@@ -127,18 +129,19 @@ module _ (m : List ℕ) where
             walked_next (reached-found m p s k a i c t) (ih (place_from k a i) z (subst (ComeIn m (place_from k a i) k a) (add-one i) (reached-start m (place_from k a i) z)) r)
 
     -- over a row, cut at `from`
-    pub walked_row : {from : ℕ} {row cut tail : ℕ → Bool} → row ≡ shown_at m k a → cut ≡ meet row tail → tail ≡ meet (at_least from) (under 256)
+    pub walked_row : {from : ℕ} {row cut : ℕ → Bool} → row ≡ shown_at m k a → cut ≡ meet row (meet (at_least from) (under 256))
         → {p : Place} → SmallPlace p → (n : ℕ) → ComeIn m p k a from → WalkOver m p n (take n (row_findings k a cut)) k (a + 1) 0
     unfolding row_findings
-    walked_row {from} {row} {cut} {tail} e f g {p} s n c =
-        let q = f ∙ ap₂ meet e g in
+    walked_row {from} {row} {cut} e f {p} s n c =
+        let q = f ∙ ap (λ t. meet t (meet (at_least from) (under 256))) e in
         subst (λ l. WalkOver m p n (take n (map (finding k a) l)) k (a + 1) 0) (sym (ap (λ t. members t 0 256) q ∙ members-cut (shown_at m k a) from 256))
         (walked-members (256 - from) from refl p s c n)
 
   module _ {p : Place} {n k a from : ℕ} {l : List Finding} (w : WalkOver m p n l k a from) where
-    -- no row of the kind is left
-    pub walked-kind : ((0 < k) → 256 ≤ a) → WalkOver m p n l (k + 1) 0 0
-    walked-kind h = record { goes = w.goes; sized = w.sized; reached = λ q. reached-kind m (moved p l) w.sized k a from (w.reached q) h }
+    -- no finding is from there on and before the slot b of kind j, which is further on
+    pub walked-later : (j b : ℕ) → k ≤ j → (j ≡ k → a < b) → b ≤ 65536
+        → ((x y z : ℕ) → shown_at m x y z ≡ true → row_number k a ≤ row_number x y → row_number x y < row_number j b → ⊥) → WalkOver m p n l j b 0
+    walked-later j b f h u n = record { goes = w.goes; sized = w.sized; reached = λ q. reached-later m (moved p l) w.sized k a from j b (w.reached q) f h u n }
 
     -- all that were wanted, or no kind is left
     pub walked_all : (k < 8 → n ≤ length l) → walk (next_in m) n p ≡ l

@@ -1,6 +1,6 @@
 -- A listing of the findings after a place, as many as a buffer holds, row after row.
 use mathlib.Core.Path.{◌≡◌, refl, sym, ap, ◌∙◌}
-use mathlib.Core.Bool.{Bool}
+use mathlib.Core.Bool.{Bool, true, true≢false}
 use mathlib.Core.List.{List, [], ◌∷◌, ◌++◌, map, map-append}
 use Prim.Native.Nat.{ℕ, zero, suc, ◌+◌, ◌-◌, ◌/◌, ◌%◌, ◌≤◌, ◌<◌}
 use native.Mathlib.Decide.{dec_lt}
@@ -16,13 +16,15 @@ use Rattle.model.specs.Findings.{Place, place_of, walk, moved, finding_code}
 use Rattle.model.specs.Kinds.{kind_number}
 use Rattle.row_listing.specs.Listing.{row_findings}
 use Rattle.row_listing.proofs.Putting.{rest-lent, puts-rest}
+use Rattle.finding_rows.specs.Slots.{SlotsOf}
 use Rattle.findings.specs.declared.Row.{Row}
 use Rattle.findings.specs.declared.Rows.{Rows}
-use Rattle.findings.specs.RowSteps.{HereIs, AboveIs}
+use Rattle.findings.specs.RowSteps.{row_number, NoneTo, HereIs, LaterIs}
 use Rattle.findings.specs.Steps.{place_at}
 use Rattle.container_findings.specs.Rows.{shown_at}
+use Rattle.findings.proofs.Inside.{shown-inside}
 use Rattle.findings.proofs.Walk.{rank, SmallPlace}
-use Rattle.findings.proofs.NextFinding.{next_in, walk-sized, ComeIn, reached-start, WalkOver, walked_none, walked_then, walked_row, walked-kind, walked_all}
+use Rattle.findings.proofs.NextFinding.{next_in, walk-sized, ComeIn, reached-start, WalkOver, walked_none, walked_then, walked_row, walked-later, walked_all}
 
 -- ---- the number of a place
 
@@ -82,10 +84,10 @@ module _ (m : List ℕ) {p : Place} {d : List ℕ} where
     listed-reached h = g.walked.reached (omega (arith, count, listed-size))
 
     -- the findings of a row, as many as there is room for in the rest of the buffer
-    pub listed-row : a < 256 → at < length e → {row cut tail : ℕ → Bool} → row ≡ shown_at m k a → cut ≡ meet row tail → tail ≡ meet (at_least from) (under 256)
+    pub listed-row : a < 256 → at < length e → {row cut : ℕ → Bool} → row ≡ shown_at m k a → cut ≡ meet row (meet (at_least from) (under 256))
         → {part : List ℕ} {n : ℕ} → Puts (take (length e - at) (drop at e)) 0 (take (length (take (length e - at) (drop at e))) (map finding_code (row_findings k a cut))) part n
         → PutSoFar m p d (put_mid at (length e - at) e part) k (a + 1) 0 (at + n)
-    listed-row h l {cut = cut} er ec et {part = part} {n = i} q =
+    listed-row h l {cut = cut} er ec {part = part} {n = i} q =
         let free = length d - length g.found in
         let row = row_findings k a cut in
         let put : Puts e at (map finding_code (take free row)) (put_mid at (length e - at) e part) (at + i) =
@@ -93,14 +95,15 @@ module _ (m : List ℕ) {p : Place} {d : List ℕ} where
         record {
           found = g.found ++ take free row;
           puts = puts-as (puts_then g.puts put) (sym (map-append finding_code g.found (take free row)));
-          walked = walked_then m g.walked (walked_row m k a h er ec et g.walked.sized free (listed-reached l));
+          walked = walked_then m g.walked (walked_row m k a h er ec g.walked.sized free (listed-reached l));
         }
       where
         room : length (drop at e) ≡ length d - length g.found
         room = omega (arith, length-drop at e, listed-size, count)
 
-    listed-kind : ((0 < k) → 256 ≤ a) → PutSoFar m p d e (k + 1) 0 0 at
-    listed-kind h = record { found = g.found; puts = g.puts; walked = walked-kind m g.walked h }
+    listed-later : (j b : ℕ) → k ≤ j → (j ≡ k → a < b) → b ≤ 65536
+        → ((x y z : ℕ) → shown_at m x y z ≡ true → row_number k a ≤ row_number x y → row_number x y < row_number j b → ⊥) → PutSoFar m p d e j b 0 at
+    listed-later j b f h u n = record { found = g.found; puts = g.puts; walked = walked-later m g.walked j b f h u n }
 
     -- the buffer is full, or no kind is left
     listed-all : (k < 8 → length e ≤ at) → Puts d 0 (map finding_code (walk (next_in m) (length d) p)) e at
@@ -111,18 +114,24 @@ module _ (m : List ℕ) {p : Place} {d : List ℕ} where
 
   -- ---- by the rows, one after another
 
-  module _ {e : List ℕ} {s : Rows} {at : ℕ} (g : PutSoFar m p d e s.kind s.slot s.from at) where
+  module _ {e : List ℕ} {s : Rows} {at : ℕ} (h : SlotsOf m s.slots.now) (g : PutSoFar m p d e s.kind s.slot s.from at) where
+    -- no finding is at a slot that is passed over
+    none-there : (j b : ℕ) → NoneTo s j b → (x y z : ℕ) → shown_at m x y z ≡ true → row_number s.kind s.slot ≤ row_number x y → row_number x y < row_number j b → ⊥
+    none-there j b n x y z t l u =
+        let i = shown-inside m x y z t in
+        true≢false (sym (h.each x y z t) ∙ n.clear x y i.low i.in_a l u)
+
     -- the walk has come to the next row
-    pub listed-come : {r : Row} → HereIs s r ⊎ AboveIs s r → PutSoFar m p d e (kind_number r.kind) r.slot r.from at
-    listed-come (inl h) = rw (h.kind, h.slot, h.from) g
-    listed-come (inr h) = rw (h.kind, h.slot, h.from) (listed-kind g h.past)
+    pub listed-come : {r : Row} → r.slot < 256 → HereIs s r ⊎ LaterIs s r → PutSoFar m p d e (kind_number r.kind) r.slot r.from at
+    listed-come w (inl i) = rw (i.kind, i.slot, i.from) g
+    listed-come {r} w (inr i) = rw i.from (listed-later g (kind_number r.kind) r.slot i.far i.past (omega arith) (none-there (kind_number r.kind) r.slot i.none))
 
     -- no row is left
-    pub listed-end : (7 ≤ s.kind) × (s.kind < 8 → 256 ≤ s.slot) → Puts d 0 (map finding_code (walk (next_in m) (length d) p)) e at
-    listed-end h = go (dec_lt s.kind 8)
+    pub listed-end : NoneTo s 8 0 → Puts d 0 (map finding_code (walk (next_in m) (length d) p)) e at
+    listed-end n = go (dec_lt s.kind 8)
       where
         go : Dec (s.kind < 8) → Puts d 0 (map finding_code (walk (next_in m) (length d) p)) e at
-        go (yes l) = listed-all (listed-kind g (λ k. h.1 l)) (λ k. absurd (omega (arith, h.0)))
+        go (yes l) = listed-all (listed-later g 8 0 (omega arith) (λ q. absurd (omega arith)) (omega arith) (none-there 8 0 n)) (λ k. absurd (omega arith))
         go (no l) = listed-all g (λ k. absurd (l k))
 
 -- ---- what was put, all of it

@@ -9,6 +9,7 @@ use borrow.Author.Tests.{eq-eqb, ne_eqb, lt-ltb, le-ltb}
 use Rattle.model.specs.declared.Finding.{Finding}
 use Rattle.model.specs.Findings.{Place, finding, finding_code, after, place_of}
 use Rattle.model.proofs.Next.{Least, NoneAfter}
+use Rattle.findings.specs.RowSteps.{row_number}
 
 -- ---- three numbers as one, where those of a and b are below 65536
 
@@ -141,20 +142,25 @@ module _ (T : ℕ → ℕ → ℕ → Bool) (B : AllInside T) (p : Place) (s : S
     left = λ x y z e q. let i = B x y z e in let ka = i.in_a in let kb = i.in_b in let u = c.left x y z e q in omega arith;
   }
 
-  -- no row of the kind is left: kind 0, or all 256 passed
-  pub come-kind : (k a from : ℕ) → Come T p k a from → ((0 < k) → 256 ≤ a) → Come T p (k + 1) 0 0
+  -- no finding is from there on and before the slot b of kind j, which is further on
+  pub come-later : (k a from j b : ℕ) → Come T p k a from → k ≤ j → (j ≡ k → a < b) → b ≤ 65536
+      → ((x y z : ℕ) → T x y z ≡ true → row_number k a ≤ row_number x y → row_number x y < row_number j b → ⊥) → Come T p j b 0
   unfolding finding_code
-  come-kind k a from c h = record {
-    short_a = omega arith;
+  come-later k a from j b c f n l none = record {
+    short_a = l;
     short_b = omega arith;
     far = omega (arith, c.far);
-    past = omega (arith, c.far, s.small_a, s.small_b);
-    left = λ x y z e q. go x y z e (c.left x y z e q) (dec_lt 0 k);
+    past = after (ℕ_discrete j k);
+    left = λ x y z e q. go x y z e (c.left x y z e q) (dec_lt (rank x y z) (rank j b 0));
   }
     where
-      go : (x y z : ℕ) → T x y z ≡ true → rank k a from ≤ rank x y z → Dec (0 < k) → rank (k + 1) 0 0 ≤ rank x y z
-      go x y z e q (yes l) = let i = B x y z e in let ka = i.in_a in let kb = i.in_b in let u = h l in omega arith
-      go x y z e q (no n) = let i = B x y z e in let kk = i.low in omega arith
+      after : Dec (j ≡ k) → rank_of p < rank j b 0
+      after (yes e) = let m = n e in omega (arith, c.past, c.short_b)
+      after (no m) = omega (arith, c.far, s.small_a, s.small_b)
+
+      go : (x y z : ℕ) → T x y z ≡ true → rank k a from ≤ rank x y z → Dec (rank x y z < rank j b 0) → rank j b 0 ≤ rank x y z
+      go x y z e q (no m) = omega arith
+      go x y z e q (yes m) = let i = B x y z e in let kb = i.in_b in absurd (none x y z e (omega arith) (omega arith))
 
   -- no kind is left
   pub come-end : (k a from : ℕ) → Come T p k a from → 8 ≤ k → NoneAfter (there_in T) p

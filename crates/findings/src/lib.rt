@@ -3,15 +3,20 @@
 
 ghost use Rattle.std.specs.Prelude.{◌≡◌, true, map, ◌+◌, ◌-◌, ◌*◌, ◌<◌, length};
 ghost use Rattle.std.specs.Iterator.{at_most};
+ghost use Rattle.bitrow.specs.Bit.{bit_at};
+ghost use Rattle.bitrow.specs.Set.{meet, at_least, under};
 ghost use Rattle.buffer.specs.Buffer.{Puts};
 ghost use Rattle.model.specs.Findings.{next_after, walk, moved, finding_code};
 ghost use Rattle.formed.specs.Registry.{model_in, bits_in, well_formed};
 ghost use Rattle.findings.specs.Steps.{next_step, cursor_place, place_at};
-ghost use Rattle.findings.specs.RowSteps.{RowSteps};
+ghost use Rattle.findings.specs.RowSteps.{RowOfKind, RowSteps};
 
-use finding_rows::Standing;
+use finding_rows::View;
 use model::{Finding, Kind};
 use store::Words;
+
+// For so many findings and more, tables are worth filling.
+const MANY: usize = 16;
 
 // A place in the list of findings: any three numbers.
 // Kept: `kind: u16`: the C interface: a cursor is C's, and may stand at any number, also where there is no kind.
@@ -37,16 +42,31 @@ struct Row {
     from: usize,
 }
 
-// The rows from a place on, kind after kind: that of the place itself, if it has one, from the number `from` on.
-// Kept: `kind: u16`: the rows begin where a cursor stands, which is C's: at any number, also where there is no kind.
+// The rows from a place on that can have a finding, kind after kind: those at the slots of each kind. That of the place itself is
+// from the number `from` on, each later one whole.
+// Kept: `kind: usize`: the rows begin where a cursor stands, which is C's: at any number, also where there is no kind.
 #[derive(Clone, Copy)]
-struct Rows {
-    kind: u16,
+struct Rows<'a> {
+    slots: &'a [[u64; 4]; 8],
+    kind: usize,
     slot: usize,
     from: usize,
 }
 
-impl Iterator for Rows {
+impl<'a> Rows<'a> {
+    // The first row of the place's kind, from the place on.
+    fn row_of_kind(&self) -> Option<Row>
+        requires { self.now.kind < 8 }
+        ensures { RowOfKind self.now result }
+    {
+        let kind = Kind::numbered(self.kind)?;
+        let slot = row_reads::next_from(self.slots[self.kind], self.slot)?;
+        let from = if slot == self.slot { self.from } else { 0 };
+        Some(Row { kind, slot, from })
+    }
+}
+
+impl<'a> Iterator for Rows<'a> {
     type Item = Row;
 
     ghost next_gives = { RowSteps };
@@ -54,25 +74,28 @@ impl Iterator for Rows {
     ghost remaining = { λ s. at_most ((8 - s.kind) * 257 + (256 - s.slot)) };
 
     fn next(&mut self) -> Option<Row> {
-        let row = match Kind::numbered(usize::from(self.kind)) {
-            Some(kind) if self.slot < 256 => Row {
-                kind,
-                slot: self.slot,
-                from: self.from,
-            },
-            _ => Row {
-                kind: Kind::numbered(usize::from(self.kind) + 1)?,
-                slot: 0,
-                from: 0,
-            },
-        };
-        *self = Rows {
-            kind: row.kind.number(),
-            slot: row.slot + 1,
-            from: 0,
-        };
-        Some(row)
+        while self.kind < 8 {
+            if let Some(row) = self.row_of_kind() {
+                self.slot = row.slot + 1;
+                self.from = 0;
+                return Some(row);
+            }
+            self.kind += 1;
+            self.slot = 0;
+            self.from = 0;
+        }
+        None
     }
+}
+
+// The numbers of a row from this one on. That of nearly every row is 0.
+fn cut(row: [u64; 4], from: usize) -> [u64; 4]
+    ensures { bit_at result ≡ meet (bit_at row) (meet (at_least from) (under 256)) }
+{
+    if from == 0 {
+        return row;
+    }
+    row_sets::both(row, row_sets::at_least(from))
 }
 
 // The cursor at the finding whose number this is.
@@ -94,10 +117,12 @@ impl Cursor {
         requires { well_formed memory.now ≡ true }
         ensures { Puts list.old 0 (map finding_code (walk (next_after (model_in memory.now) (bits_in memory.now)) (length list.old) (cursor_place self))) list.new result }
     {
-        let standing = Standing::of(memory);
+        let mut view = View::of(memory, list.len() >= MANY);
+        let slots = view.slots(memory);
         let mut count = 0;
         let rows = Rows {
-            kind: self.kind,
+            slots: &slots,
+            kind: usize::from(self.kind),
             slot: usize::from(self.a),
             from: usize::from(self.b) + 1,
         };
@@ -105,8 +130,8 @@ impl Cursor {
             if count == list.len() {
                 return count;
             }
-            let found = finding_rows::finding_row(memory, &standing, row.kind, row.slot);
-            let wanted = row_sets::both(found, row_sets::at_least(row.from));
+            let found = finding_rows::finding_row(memory, &mut view, row.kind, row.slot);
+            let wanted = cut(found, row.from);
             count += row_listing::put_row(&mut list[count..], row.kind, row.slot, wanted);
         }
         count

@@ -48,6 +48,8 @@ fn admit_as(memory: &mut [u64], block: &[u8], out: &mut [u8], n: u64) -> Told
 }
 
 // Takes a block after n others: the first opens, the others are admitted.
+// Kept: out of line, as `feed_blocks`.
+#[inline(never)]
 #[tactic(auto, unfolding(sheets::specs::Blocks::taken))]
 pub fn feed_block(memory: &mut [u64], block: &[u8], out: &mut [u8], n: u64) -> Told
     requires { (n < 18446744073709551615) × (128 ≤ length out.old) }
@@ -78,6 +80,9 @@ fn answer_blocks(memory: &mut [u64], blocks: &[u8], answers: &mut [u16])
 
 // Takes whole blocks after n others, of which the first has opened: they are admitted in one batch, and the lines of those refused are
 // put.
+// Kept: out of line: what it, `feed_block` and `closing::tell_findings` keep on the stack lies at one place then, since none of them calls
+// another.
+#[inline(never)]
 pub fn feed_blocks(memory: &mut [u64], blocks: &[u8], out: &mut [u8], n: u64) -> usize
     requires { (length blocks.now ≤ 65536) × (length blocks.now % 512 ≡ 0) × (64 * (length blocks.now / 512) ≤ length out.old) × (n + length blocks.now / 512 ≤ 18446744073709551615) }
     ensures memory_after { memory.new ≡ (admits_all memory.old n (blocks_of blocks.now)).0 }

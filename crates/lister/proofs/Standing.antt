@@ -1,10 +1,10 @@
--- How the pump stands: what was written of the sheet, and what of the input is still to come.
-use Rattle.std.proofs.Common.{◌≡◌, Bool, true, ℕ, ◌+◌, ◌-◌, ◌^◌, ◌≤◌, ◌<◌, List, [], ◌++◌, Option, None, Some, IfSome, length, take, drop, slice_range, refl, sym, ap, ◌∙◌, subst, append_assoc, append-nil, arith, length-append, length-take, length-drop}
+-- The steps that the pump takes, one after another, and that the text of all of them is the sheet.
+use Rattle.std.proofs.Common.{◌≡◌, true, ℕ, ◌+◌, ◌-◌, ◌^◌, ◌≤◌, ◌<◌, List, [], ◌++◌, Option, None, Some, IfSome, length, take, drop, slice_range, refl, sym, ap, ◌∙◌, subst, append_assoc, append-nil, arith, length-append, length-take, length-drop}
 use Rattle.std.proofs.Math.Seq.{take-append_seam, take-append-add}
 use Rattle.std.proofs.lemmas.Bool.{false≢true}
-use Rattle.std.proofs.lemmas.List.{drop-take, drop-drop, take-take, take-append-le}
+use Rattle.std.proofs.lemmas.List.{drop-take, drop-drop, take-append-le}
 use Rattle.std.proofs.KnownBytes.{Appends-nil, Appends-trans}
-use Rattle.std.specs.Io.KnownBytes.{Keeps, Appends}
+use Rattle.std.specs.Io.KnownBytes.{Keeps, Appends, prepend_known}
 use Rattle.store.specs.Layout.{memory_words}
 use Rattle.buffer.specs.Buffer.{Puts}
 use Rattle.sheets.specs.declared.State.{State}
@@ -17,85 +17,82 @@ use Rattle.sheets.proofs.Due.{Due, Onward, before-first}
 use Rattle.sheets.proofs.Onward.{step-onward}
 use Rattle.streams.specs.declared.Input.{Input}
 use Rattle.streams.specs.declared.Input.TheVariants.{Unused, Ended}
-use Rattle.streams.specs.Bytes.{Within, ended_in, piece_of, left_in, after, to_come, TellsEnd, AppendsSome}
+use Rattle.streams.specs.Bytes.{Within, ended_in, piece_of, left_in, after, unread, to_come, AppendsSome}
+use Rattle.lister.specs.Steps.{Point, step_from, next_point, Steps, Place, place, known_at, Leads, Ends, Stops, WentTo, WentToEnd, Stopped}
+use Rattle.lister.specs.Steps.Steps.{none, more}
 
--- Of the sheet of `input`: `text` was written, and `rest` is due in the state s, with `coming` of the input still to come.
-pub record Standing (input : List ℕ) (old new : Option (List ℕ)) (left : Option (List ℕ)) (s : State) (m k : List ℕ) : Type 0 where
-  pub text : List ℕ
-  pub rest : List ℕ
-  pub coming : List ℕ
-  pub parts : sheet input ≡ text ++ rest
-  pub written : Appends old new text
-  pub left-is : left ≡ Some coming
-  pub size : length k ≡ 512
-  pub due : Due s m k coming rest
+-- ---- what is known where the input is
 
--- The same where the input is known, is one that can be counted, and is read into a buffer of some bytes.
-pub record Stands (known : Option (List ℕ)) (room : ℕ) (old new left : Option (List ℕ)) (s : State) (m k : List ℕ) : Type 0 where
-  pub holds : IfSome known (λ input. 0 < room → length input < 2 ^ 64 → Standing input old new left s m k)
+if_known : {P Q : List ℕ → Type 0} (k : Option (List ℕ)) → ((i : List ℕ) → k ≡ Some i → P i → Q i) → IfSome k P → IfSome k Q
+if_known None f h = tt
+if_known (Some i) f h = f i refl h
 
--- ---- the start
+known_as : (P : List ℕ → Type 0) (k : Option (List ℕ)) (i : List ℕ) → k ≡ Some i → IfSome k P → P i
+known_as P None i e h = absurd (let z : ◌≡◌ {A = Option (List ℕ)} None (Some i) → ⊥ = λ d. cc in z e)
+known_as P (Some j) i e h = let d : j ≡ i = cc in subst P d h
 
-starts-with : (input : List ℕ) (w : Option (List ℕ)) (m k : List ℕ) → length m ≡ memory_words → length k ≡ 512 → length input < 2 ^ 64
-    → Standing input w w (Some input) start_state m k
-unfolding sheet
-starts-with input w m k h size short = record {
-  text = [];
-  rest = sheet input;
-  coming = input;
-  parts = refl;
-  written = Appends-nil w;
-  left-is = refl;
-  size = size;
-  due = record { part = omega arith; few = omega (arith, short); after = before-first refl h refl };
+-- ---- steps after steps
+
+joined : {a b c : Point} {t u : List ℕ} → Steps a b t → Steps b c u → Steps a c (t ++ u)
+joined {a} {b} {t = t} s none = subst (Steps a b) (sym (append-nil t)) s
+joined {a} {t = t} s (more d u p q ended room r e f) =
+    subst (Steps a (next_point (step_from d p ended room) p q)) (append_assoc t u (step_from d p ended room).text)
+    (more d (t ++ u) p q ended room (joined s r) e f)
+
+pub went_nowhere : (a : Place) (w : Option (List ℕ)) → WentTo a a w w
+went_nowhere a w = record { known = nowhere a.coming refl }
+  where
+    nowhere : (k : Option (List ℕ)) → a.coming ≡ k → IfSome k (λ i. Leads (known_at a i) a w w)
+    nowhere None e = tt
+    nowhere (Some i) e = record { coming = i; is_coming = e; text = []; steps = none; written = Appends-nil w }
+
+module _ {a b : Place} {old new next : Option (List ℕ)} (went : WentTo a b old new) where
+  pub went_on : {c : Place} → WentTo b c new next → WentTo a c old next
+  went_on {c} h = record {
+    known = if_known a.coming (λ i _ x.
+        let y = known_as (λ j. Leads (known_at b j) c new next) b.coming x.coming x.is_coming h.known in
+        record {
+          coming = y.coming;
+          is_coming = y.is_coming;
+          text = x.text ++ y.text;
+          steps = joined x.steps y.steps;
+          written = Appends-trans old new next x.text y.text x.written y.written;
+        }) went.known;
+  }
+
+  pub ended_on : WentToEnd b new next → WentToEnd a old next
+  ended_on h = record {
+    known = if_known a.coming (λ i _ x.
+        let y = known_as (λ j. Ends (known_at b j) new next) b.coming x.coming x.is_coming h.known in
+        record {
+          to = y.to;
+          is_end = y.is_end;
+          text = x.text ++ y.text;
+          steps = joined x.steps y.steps;
+          written = Appends-trans old new next x.text y.text x.written y.written;
+        }) went.known;
+  }
+
+  pub stopped_on : Stopped b new next → Stopped a old next
+  stopped_on h = record {
+    known = if_known a.coming (λ i _ x.
+        let y = known_as (λ j. Stops (known_at b j) new next) b.coming x.coming x.is_coming h.known in
+        let k = y.written.0 in
+        record {
+          to = y.to;
+          text = x.text ++ y.text;
+          steps = joined x.steps y.steps;
+          written = (length x.text + k, omega (arith, y.written.1, length-append x.text y.text), subst (Appends old next) (sym (take-append-add x.text y.text k)) (Appends-trans old new next x.text (take k y.text) x.written y.written.2));
+        }) went.known;
+  }
+
+pub ended_there : {a b : Place} {old new : Option (List ℕ)} → finished_in b.state ≡ true → WentTo a b old new → WentToEnd a old new
+ended_there {a} {b} e went = record {
+  known = if_known a.coming (λ i _ x. record { to = known_at b x.coming; is_end = e; text = x.text; steps = x.steps; written = x.written }) went.known;
 }
 
-pub starts : (known w : Option (List ℕ)) (m k bytes : List ℕ) → length m ≡ memory_words → length k ≡ 512
-    → Stands known (length bytes) w w (to_come bytes (Unused 0 0) known) start_state m k
-starts None w m k bytes h size = record { holds = tt }
-starts (Some whole) w m k bytes h size = record { holds = λ room short. starts-with whole w m k h size short }
+-- ---- a piece of the input in a buffer
 
--- ---- a refill
-
-known-still : (a b : Option (List ℕ)) (l : List ℕ) → Keeps a b → a ≡ Some l → b ≡ Some l
-known-still None b l p e = cc
-known-still (Some x) None l p e = absurd p
-known-still (Some x) (Some y) l p e = ap Some p ∙ e
-
-pub refilled : {known : Option (List ℕ)} {room : ℕ} {old new left next : Option (List ℕ)} {s : State} {m k : List ℕ} → Keeps left next
-    → Stands known room old new left s m k → Stands known room old new next s m k
-refilled {known = None} p st = record { holds = tt }
-refilled {known = Some whole} {left = left} {next = next} p st = record {
-  holds = λ some short. let x = st.holds some short in record {
-    text = x.text;
-    rest = x.rest;
-    coming = x.coming;
-    parts = x.parts;
-    written = x.written;
-    left-is = known-still left next x.coming p x.left-is;
-    size = x.size;
-    due = x.due;
-  };
-}
-
--- ---- a step
-
-no-bytes : {l : List ℕ} → ◌≡◌ {A = Option (List ℕ)} None (Some l) → ⊥
-no-bytes e = cc
-
--- what was put is the text
-put-taken : (d t e : List ℕ) (stop : ℕ) → Puts d 0 t e stop → take stop e ≡ t
-put-taken d t e stop p =
-    let n : stop ≡ length t = omega (arith, p.stops) in
-    rw (n, p.text) (take-append_seam t (drop stop d))
-
--- of the first bytes of a text
-pub cut_short : (a b : Option (List ℕ)) (e : List ℕ) (n : ℕ) → AppendsSome a b (take n e) (length (take n e)) → AppendsSome a b e n
-cut_short a b e n w =
-    let few : w.0 ≤ n = omega (arith, w.1, length-take n e) in
-    (w.0, few, subst (Appends a b) (take-take w.0 n e few) w.2)
-
--- what is left of the piece
 range-after : (bytes : List ℕ) (a e u : ℕ) → u ≤ e - a → slice_range bytes (a + u) e ≡ drop u (slice_range bytes a e)
 range-after bytes a e u h =
     let n : e - a ≡ u + (e - (a + u)) = omega arith in
@@ -103,115 +100,168 @@ range-after bytes a e u h =
 
 piece-after : (bytes : List ℕ) (from : Input) (u : ℕ) → u ≤ left_in from → piece_of bytes (after from u) ≡ drop u (piece_of bytes from)
 piece-after bytes (Unused a e) u h = range-after bytes a e u h
-piece-after bytes (Ended a e) u h = range-after bytes a e u h
+piece-after bytes Ended u h = let n : u ≡ 0 = omega (arith, h) in rw n refl
+
+unread-after : (from : Input) (u : ℕ) (left : Option (List ℕ)) → unread (after from u) left ≡ unread from left
+unread-after (Unused a e) u left = refl
+unread-after Ended u left = refl
 
 pub piece-within : (bytes : List ℕ) (from : Input) → length (piece_of bytes from) ≤ left_in from
 piece-within bytes (Unused a e) = omega (arith, length-take (e - a) (drop a bytes))
-piece-within bytes (Ended a e) = omega (arith, length-take (e - a) (drop a bytes))
+piece-within bytes Ended = omega arith
 
 pub piece_fed : (bytes : List ℕ) (from : Input) → Within from (length bytes) → left_in from ≤ length (piece_of bytes from)
 piece_fed bytes (Unused a e) h = omega (arith, length-take (e - a) (drop a bytes), length-drop a bytes)
-piece_fed bytes (Ended a e) h = omega (arith, length-take (e - a) (drop a bytes), length-drop a bytes)
+piece_fed bytes Ended h = omega arith
 
 pub within_after : (from : Input) (room u : ℕ) → Within from room → u ≤ left_in from → Within (after from u) room
 within_after (Unused a e) room u w h = (omega arith, w.1)
-within_after (Ended a e) room u w h = (omega arith, w.1)
+within_after Ended room u w h = tt
 
-pub ended-after : (from : Input) (u : ℕ) → ended_in (after from u) ≡ ended_in from
-ended-after (Unused a e) u = refl
-ended-after (Ended a e) u = refl
+pub within_larger : (from : Input) (room larger : ℕ) → room ≤ larger → Within from room → Within from larger
+within_larger (Unused a e) room larger h w = (w.0, omega (arith, w.1))
+within_larger Ended room larger h w = tt
+
+pub ended_within : (from : Input) (room : ℕ) → ended_in from ≡ true → Within from room
+ended_within (Unused a e) room h = absurd (false≢true h)
+ended_within Ended room h = tt
+
+pub ended_used : (from : Input) → ended_in from ≡ true → left_in from ≡ 0
+ended_used (Unused a e) h = absurd (false≢true h)
+ended_used Ended h = refl
 
 pub ruleset pieces = (piece-within, piece_fed)
 
-due-at : (s t : State) (m n k l i r : List ℕ) → s ≡ t → m ≡ n → k ≡ l → Due t n l i r → Due s m k i r
-due-at s t m n k l i r e f g d = rw (e, f, g) d
+-- where no byte that was read is left, it is no matter in which buffer none is
+pub used_up : (bytes : List ℕ) (from : Input) (left : Option (List ℕ)) → left_in from ≡ 0 → to_come bytes from left ≡ unread from left
+used_up bytes (Unused a e) left h = rw h (nothing_before left)
+  where
+    nothing_before : (k : Option (List ℕ)) → prepend_known [] k ≡ k
+    nothing_before None = refl
+    nothing_before (Some l) = refl
+used_up bytes Ended None h = refl
+used_up bytes Ended (Some l) h = refl
 
--- A step was lent the piece p, with q after it.
-module _ (input : List ℕ) (old new : Option (List ℕ)) (s : State) (m k p q : List ℕ) (ended : Bool) (room : ℕ) (st : Standing input old new (Some (p ++ q)) s m k) (fin : ended ≡ true → q ≡ []) where
-  abbrev x : Left
-  x = report_step m k p ended room s
+pub within_start : (from : Input) (room : ℕ) → from ≡ Unused 0 0 → Within from room
+within_start from room e = rw e (omega arith, omega arith)
 
-  came : st.coming ≡ p ++ q
-  came = cc (st.left-is)
+-- ---- the same place, its input in another buffer
 
-  onward : Onward st.rest x (drop x.used p ++ q)
-  onward = step-onward m k p q st.rest ended room s st.size fin (subst (λ i. Due s m k i st.rest) came st.due)
+module _ (m k : List ℕ) (s : State) (from : Input) (left w : Option (List ℕ)) where
+  same_place : {i j : Option (List ℕ)} → i ≡ j → WentTo (place m k s i) (place m k s j) w w
+  same_place {i} e = subst (λ x. WentTo (place m k s i) (place m k s x) w w) e (went_nowhere (place m k s i) w)
 
-  parts : sheet input ≡ st.text ++ (x.text ++ onward.rest)
-  parts = st.parts ∙ ap (λ l. st.text ++ l) onward.text
+  pub into_buffer : (bytes : List ℕ) → left_in from ≡ 0 → WentTo (place m k s (unread from left)) (place m k s (to_come bytes from left)) w w
+  into_buffer bytes h = same_place (sym (used_up bytes from left h))
 
-  -- all of its text was written
-  after-all : (next left : Option (List ℕ)) (t : State) (n l : List ℕ) → Appends new next x.text → left ≡ Some (drop x.used p ++ q) → t ≡ x.state → n ≡ x.memory → l ≡ x.block
-      → Standing input old next left t n l
-  after-all next left t n l w e f g h = record {
-    text = st.text ++ x.text;
-    rest = onward.rest;
-    coming = drop x.used p ++ q;
-    parts = parts ∙ sym (append_assoc st.text x.text onward.rest);
-    written = Appends-trans old new next st.text x.text st.written w;
-    left-is = e;
-    size = ap length h ∙ onward.size;
-    due = due-at t x.state n x.memory l x.block (drop x.used p ++ q) onward.rest f g h onward.due;
-  }
+  pub out_of_buffer : (bytes : List ℕ) → left_in from ≡ 0 → WentTo (place m k s (to_come bytes from left)) (place m k s (unread from left)) w w
+  out_of_buffer bytes h = same_place (used_up bytes from left h)
 
-  -- the first j bytes of it were written
-  after-some : (next : Option (List ℕ)) (j : ℕ) → j ≤ length x.text → Appends new next (take j x.text) → AppendsSome old next (sheet input) (length (sheet input))
-  after-some next j h w =
-      let e : take (length st.text + j) (sheet input) ≡ st.text ++ take j x.text =
-      ap (take (length st.text + j)) parts ∙ take-append-add st.text (x.text ++ onward.rest) j ∙ ap (λ l. st.text ++ l) (take-append-le j x.text onward.rest h) in
-      let n : length (sheet input) ≡ length st.text + (length x.text + length onward.rest) = ap length parts ∙ length-append st.text (x.text ++ onward.rest) ∙ ap (λ i. length st.text + i) (length-append x.text onward.rest) in
-      (length st.text + j, omega (arith, n, h), subst (Appends old next) (sym e) (Appends-trans old new next st.text (take j x.text) st.written w))
+-- before the first read
+pub at_start : (m k bytes : List ℕ) (s r : State) (from : Input) (left w : Option (List ℕ)) → from ≡ Unused 0 0 → r ≡ s → WentTo (place m k s left) (place m k r (to_come bytes from left)) w w
+at_start m k bytes s r from left w e f = rw (e, f) (into_buffer m k s (Unused 0 0) left w bytes refl)
 
--- the same of a piece in a buffer
-module _ (old new : Option (List ℕ)) (s : State) (m k bytes o e n l : List ℕ) (from : Input) (done : Stepped) (does : Does (report_step m k (piece_of bytes from) (ended_in from) (length o) s) n l o e done) where
+-- ---- a turn
+
+ended-none : (from : Input) (left : Option (List ℕ)) (q : List ℕ) → unread from left ≡ Some q → ended_in from ≡ true → q ≡ []
+ended-none (Unused a e) left q h t = absurd (false≢true t)
+ended-none Ended None q h t = absurd (let z : ◌≡◌ {A = Option (List ℕ)} None (Some q) → ⊥ = λ d. cc in z h)
+ended-none Ended (Some l) q h t = cc
+
+-- what was put is the text
+put-taken : (d t e : List ℕ) (stop : ℕ) → Puts d 0 t e stop → take stop e ≡ t
+put-taken d t e stop p =
+    let n : stop ≡ length t = omega (arith, p.stops) in
+    rw (n, p.text) (take-append_seam t (drop stop d))
+
+steps-to : {a : Point} {t : List ℕ} (m n k l i : List ℕ) (s r : State) → n ≡ m → l ≡ k → r ≡ s
+    → Steps a (record { memory = m; block = k; state = s; coming = i }) t → Steps a (record { memory = n; block = l; state = r; coming = i }) t
+steps-to m n k l i s r e f g h = rw (e, f, g) h
+
+-- the input that is known, by the piece that a step is lent
+in_parts : (k : Option (List ℕ)) (p i : List ℕ) (rest : Option (List ℕ)) → k ≡ Some i → Keeps k (prepend_known p rest) → (q : List ℕ) × (rest ≡ Some q) × (i ≡ p ++ q)
+in_parts None p i rest e h = absurd (let z : ◌≡◌ {A = Option (List ℕ)} None (Some i) → ⊥ = λ d. cc in z e)
+in_parts (Some x) p i None e h = absurd h
+in_parts (Some x) p i (Some q) e h = let d : x ≡ i = cc in (q, refl, sym d ∙ sym h)
+
+module _ (m k bytes o e n l : List ℕ) (s : State) (before left old new : Option (List ℕ)) (from : Input) (done : Stepped) (does : Does (report_step m k (piece_of bytes from) (ended_in from) (length o) s) n l o e done) (kept : Keeps before (to_come bytes from left)) where
   abbrev y : Left
   y = report_step m k (piece_of bytes from) (ended_in from) (length o) s
 
   all-put : take done.put e ≡ y.text
   all-put = put-taken o y.text e done.put does.text
 
-  some-put : (j : ℕ) → j ≤ done.put → take j e ≡ take j y.text
-  some-put j h = sym (take-take j done.put e h) ∙ ap (take j) all-put
+  abbrev Parts : List ℕ → Type 0
+  Parts i = (q : List ℕ) × (unread from left ≡ Some q) × (i ≡ piece_of bytes from ++ q)
 
-  put-length : done.put ≡ length y.text
-  put-length = omega (arith, does.text.stops)
+  step-in : (i : List ℕ) → (z : Parts i) → Steps (record { memory = m; block = k; state = s; coming = i }) (next_point y (piece_of bytes from) z.0) y.text
+  step-in i z = more _ [] (piece_of bytes from) z.0 (ended_in from) (length o) none z.2 (ended-none from left z.0 z.1)
 
-  stepped-one : (input : List ℕ) (left next : Option (List ℕ)) → TellsEnd from left → done.used ≤ left_in from
-      → Appends new next (take done.put e) → Standing input old new (to_come bytes from left) s m k → Standing input old next (to_come bytes (after from done.used) left) done.state n l
-  stepped-one input None next told h w st = absurd (no-bytes st.left-is)
-  stepped-one input (Some q) next told h w st =
-      let used : piece_of bytes (after from done.used) ≡ drop y.used (piece_of bytes from) =
-      piece-after bytes from done.used h ∙ ap (λ u. drop u (piece_of bytes from)) does.used in
-      after-all input old new s m k (piece_of bytes from) q (ended_in from) (length o) st told next (to_come bytes (after from done.used) (Some q)) done.state n l
-      (subst (Appends new next) all-put w) (ap (λ i. Some (i ++ q)) used) does.state does.memory does.block
+  -- all of its text was written
+  pub turned : done.used ≤ left_in from → Appends old new (take done.put e) → WentTo (place m k s before) (place n l done.state (to_come bytes (after from done.used) left)) old new
+  turned h w = record { known = known before refl }
+    where
+      leads : (i : List ℕ) → Parts i → Leads (record { memory = m; block = k; state = s; coming = i }) (place n l done.state (to_come bytes (after from done.used) left)) old new
+      leads i z =
+          let used : piece_of bytes (after from done.used) ≡ drop y.used (piece_of bytes from) =
+          piece-after bytes from done.used h ∙ ap (λ u. drop u (piece_of bytes from)) does.used in
+          let rest : unread (after from done.used) left ≡ Some z.0 = unread-after from done.used left ∙ z.1 in
+          record {
+            coming = drop y.used (piece_of bytes from) ++ z.0;
+            is_coming = rw (used, rest) refl;
+            text = y.text;
+            steps = steps-to y.memory n y.block l _ y.state done.state does.memory does.block does.state (step-in i z);
+            written = subst (Appends old new) all-put w;
+          }
 
-  failed-one : (input : List ℕ) (left next : Option (List ℕ)) → TellsEnd from left → AppendsSome new next e done.put → Standing input old new (to_come bytes from left) s m k
-      → AppendsSome old next (sheet input) (length (sheet input))
-  failed-one input None next told w st = absurd (no-bytes st.left-is)
-  failed-one input (Some q) next told w st =
-      after-some input old new s m k (piece_of bytes from) q (ended_in from) (length o) st told next w.0
-      (omega (arith, w.1, put-length)) (subst (Appends new next) (some-put w.0 w.1) w.2)
+      known : (b : Option (List ℕ)) → before ≡ b → IfSome b (λ i. Leads (record { memory = m; block = k; state = s; coming = i }) (place n l done.state (to_come bytes (after from done.used) left)) old new)
+      known None d = tt
+      known (Some i) d = leads i (in_parts before (piece_of bytes from) i (unread from left) d kept)
 
--- All of its text was written.
-pub stepped : {known old new next : Option (List ℕ)} {room : ℕ} {s : State} {m k n l o e : List ℕ} {done : Stepped} (bytes : List ℕ) (left : Option (List ℕ)) (from : Input)
-    → Does (report_step m k (piece_of bytes from) (ended_in from) (length o) s) n l o e done → (0 < room → TellsEnd from left)
-    → done.used ≤ left_in from → Appends new next (take done.put e)
-    → Stands known room old new (to_come bytes from left) s m k → Stands known room old next (to_come bytes (after from done.used) left) done.state n l
-stepped {known = None} bytes left from does told h w st = record { holds = tt }
-stepped {known = Some input} {old = old} {new = new} {next = next} {s = s} {m = m} {k = k} {n = n} {l = l} {o = o} {e = e} {done = done} bytes left from does told h w st = record {
-  holds = λ some short. stepped-one old new s m k bytes o e n l from done does input left next (told some) h w (st.holds some short);
-}
+  -- only the first bytes of it were written
+  pub cut_off : AppendsSome old new (take done.put e) (length (take done.put e)) → Stopped (place m k s before) old new
+  cut_off w = record { known = known before refl }
+    where
+      known : (b : Option (List ℕ)) → before ≡ b → IfSome b (λ i. Stops (record { memory = m; block = k; state = s; coming = i }) old new)
+      known None d = tt
+      known (Some i) d =
+          let z = in_parts before (piece_of bytes from) i (unread from left) d kept in
+          record {
+            to = next_point y (piece_of bytes from) z.0;
+            text = y.text;
+            steps = step-in i z;
+            written = subst (λ (t : List ℕ). AppendsSome old new t (length t)) all-put w;
+          }
 
--- Some of its text was written.
-pub failed : {known old new : Option (List ℕ)} {room : ℕ} {s : State} {m k n l o e : List ℕ} {done : Stepped} (bytes : List ℕ) (left next : Option (List ℕ)) (from : Input)
-    → Does (report_step m k (piece_of bytes from) (ended_in from) (length o) s) n l o e done → (0 < room → TellsEnd from left)
-    → AppendsSome new next e done.put → Stands known room old new (to_come bytes from left) s m k
-    → IfSome known (λ input. 0 < room → length input < 2 ^ 64 → AppendsSome old next (sheet input) (length (sheet input)))
-failed {known = None} bytes left next from does told w st = tt
-failed {known = Some input} {old = old} {new = new} {s = s} {m = m} {k = k} {n = n} {l = l} {o = o} {e = e} {done = done} bytes left next from does told w st =
-    λ some short. failed-one old new s m k bytes o e n l from done does input left next (told some) w (st.holds some short)
+-- no step was taken, and nothing written
+pub stopped_there : (a : Place) (w : Option (List ℕ)) → Stopped a w w
+stopped_there a w = record { known = there a.coming }
+  where
+    there : (k : Option (List ℕ)) → IfSome k (λ i. Stops (known_at a i) w w)
+    there None = tt
+    there (Some i) = record { to = known_at a i; text = []; steps = none; written = (0, omega arith, Appends-nil w) }
 
--- ---- the end
+-- ---- the sheet
+
+-- What the steps from a to b put is the first of what was due at a, and the rest is due at b.
+record Joins (a b : Point) (t r : List ℕ) : Type 0 where
+  pub rest : List ℕ
+  pub text : r ≡ t ++ rest
+  pub size : length b.block ≡ 512
+  pub due : Due b.state b.memory b.block b.coming rest
+
+steps-due : {a b : Point} {t : List ℕ} (r : List ℕ) → Steps a b t → length a.block ≡ 512 → Due a.state a.memory a.block a.coming r → Joins a b t r
+steps-due r none h d = record { rest = r; text = refl; size = h; due = d }
+steps-due r (more b t p q ended room s e f) h d =
+    let x = steps-due r s h d in
+    let y : Onward x.rest (step_from b p ended room) (drop (step_from b p ended room).used p ++ q) =
+    step-onward b.memory b.block p q x.rest ended room b.state x.size f (subst (λ i. Due b.state b.memory b.block i x.rest) e x.due) in
+    record {
+      rest = y.rest;
+      text = x.text ∙ ap (λ l. t ++ l) y.text ∙ sym (append_assoc t (step_from b p ended room).text y.rest);
+      size = y.size;
+      due = y.due;
+    }
 
 none-due : (s : State) (m k i r : List ℕ) → finished_in s ≡ true → Due s m k i r → r ≡ []
 none-due (Taking n f) m k i r e d = absurd (false≢true e)
@@ -219,20 +269,24 @@ none-due Counting m k i r e d = absurd (false≢true e)
 none-due (Listing c) m k i r e d = absurd (false≢true e)
 none-due Finished m k i r e d = d
 
-pub whole : {known : Option (List ℕ)} {room : ℕ} {old new left : Option (List ℕ)} {s : State} {m k : List ℕ} → finished_in s ≡ true → Stands known room old new left s m k
-    → IfSome known (λ input. 0 < room → length input < 2 ^ 64 → Appends old new (sheet input))
-whole {known = None} e st = tt
-whole {known = Some input} {old = old} {new = new} {s = s} {m = m} {k = k} e st = λ some short.
-    let y = st.holds some short in
-    let all : sheet input ≡ y.text = y.parts ∙ ap (λ l. y.text ++ l) (none-due s m k y.coming y.rest e y.due) ∙ append-nil y.text in
-    subst (Appends old new) (sym all) y.written
+module _ (m k : List ℕ) (words : length m ≡ memory_words) (size : length k ≡ 512) where
+  abbrev start_at : List ℕ → Point
+  start_at i = record { memory = m; block = k; state = start_state; coming = i }
 
--- what was written when no more could be read is the start of the sheet
-pub begun : {known : Option (List ℕ)} {room : ℕ} {old new left : Option (List ℕ)} {s : State} {m k : List ℕ} → Stands known room old new left s m k
-    → IfSome known (λ input. 0 < room → length input < 2 ^ 64 → AppendsSome old new (sheet input) (length (sheet input)))
-begun {known = None} st = tt
-begun {known = Some input} {old = old} {new = new} st = λ some short.
-    let y = st.holds some short in
-    let e : take (length y.text) (sheet input) ≡ y.text = ap (take (length y.text)) y.parts ∙ take-append_seam y.text y.rest in
-    let n : length (sheet input) ≡ length y.text + length y.rest = ap length y.parts ∙ length-append y.text y.rest in
-    (length y.text, omega (arith, n), subst (Appends old new) (sym e) y.written)
+  starts : (i : List ℕ) → length i < 2 ^ 64 → Due start_state m k i (sheet i)
+  unfolding sheet
+  starts i short = record { part = omega arith; few = omega (arith, short); after = before-first refl words refl }
+
+  pub whole : (known old new : Option (List ℕ)) → WentToEnd (place m k start_state known) old new → IfSome known (λ i. length i < 2 ^ 64 → Appends old new (sheet i))
+  whole known old new h = if_known known (λ i _ x short.
+      let y = steps-due (sheet i) x.steps size (starts i short) in
+      let all : sheet i ≡ x.text = y.text ∙ ap (λ l. x.text ++ l) (none-due x.to.state x.to.memory x.to.block x.to.coming y.rest x.is_end y.due) ∙ append-nil x.text in
+      subst (Appends old new) (sym all) x.written) h.known
+
+  pub part : (known old new : Option (List ℕ)) → Stopped (place m k start_state known) old new → IfSome known (λ i. length i < 2 ^ 64 → AppendsSome old new (sheet i) (length (sheet i)))
+  part known old new h = if_known known (λ i _ x short.
+      let y = steps-due (sheet i) x.steps size (starts i short) in
+      let n = x.written.0 in
+      let same : take n (sheet i) ≡ take n x.text = ap (take n) y.text ∙ take-append-le n x.text y.rest x.written.1 in
+      let few : length (sheet i) ≡ length x.text + length y.rest = ap length y.text ∙ length-append x.text y.rest in
+      (n, omega (arith, x.written.1, few), subst (Appends old new) (sym same) x.written.2)) h.known

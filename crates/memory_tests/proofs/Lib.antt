@@ -1,1 +1,2 @@
--- The laws behind the proofs of `memory_tests` stand in `formed`.
+-- The other laws behind the proofs of `memory_tests` stand in `formed`.
+mod Turns

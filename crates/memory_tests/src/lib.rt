@@ -8,28 +8,33 @@ ghost use Rattle.formed.specs.Tests.{matrix_ok, sets_ok};
 
 use model::{ContainerSlot, PolicySlot};
 use store::Words;
+use word_tests::Joined;
 
 // Kept: a container has one row and a policy two, so one function for both would take the number of rows and divide by it.
 fn matrix_ok(memory: &Words, standing: [u64; 4]) -> bool
     ensures { result ≡ matrix_ok memory.now (bit_at standing) }
 {
-    (0..store::CONTAINER_SLOTS).all(|a| {
+    let mut rows = Joined::none();
+    for a in 0..store::CONTAINER_SLOTS {
         let owner = memory[store::CONTAINERS + store::CONTAINER_WORDS * a];
-        word_tests::row_ok(memory, a, owner, standing)
-    })
+        let next = rows.with(memory, a, owner);
+        rows = next;
+    }
+    rows.ok(standing)
 }
 
 // Kept: two rows for each policy, where a container has one.
 fn sets_ok(memory: &Words, standing: [u64; 4]) -> bool
     ensures { result ≡ sets_ok memory.now (bit_at standing) }
 {
-    (0..store::POLICY_SLOTS).all(|q| {
+    let mut rows = Joined::none();
+    for q in 0..store::POLICY_SLOTS {
         let owner = memory[store::POLICIES + store::POLICY_WORDS * q];
-        let selected = store::SELECTED_ROWS + store::SET_STEP * q;
-        let allowed = store::ALLOWED_ROWS + store::SET_STEP * q;
-        word_tests::row_ok(memory, selected, owner, standing)
-            && word_tests::row_ok(memory, allowed, owner, standing)
-    })
+        let selected = rows.with(memory, store::SELECTED_ROWS + store::SET_STEP * q, owner);
+        let both = selected.with(memory, store::ALLOWED_ROWS + store::SET_STEP * q, owner);
+        rows = both;
+    }
+    rows.ok(standing)
 }
 
 // Whether a memory of our size is well formed.

@@ -1,2 +1,3 @@
 -- The laws behind the proofs of `part_tests`.
 pub mod Slices
+pub mod Turns

@@ -46,12 +46,6 @@ module _ (m : List ℕ) (a b : ℕ) (r : a ≤ b) (within : b ≤ length m) wher
       ap (every (λ i. eqb (word_at s i) 0) 0) e
       ∙ every-same (λ i. eqb (word_at s i) 0) (λ i. eqb (word_at m i) 0) (b - a) 0 a (λ k h. let z : 0 + k ≡ k = omega arith in ap (λ w. eqb w 0) (ap (word_at s) z ∙ slice-word k h))
 
-  pub labels-slice : labels_between (slice_range m a b) 0 (length (slice_range m a b)) ≡ labels_between m a b
-  labels-slice =
-      let s = slice_range m a b in
-      let e : length s - 0 ≡ b - a = omega (arith, slice-length) in
-      ap (labels_ok s 0 0) e ∙ labels-same s m (b - a) 0 0 a (λ k h. let z : 0 + k ≡ k = omega arith in ap (word_at s) z ∙ slice-word k h)
-
 -- ---- a part on its own
 
 and-same : (t : Bool) {a b : Bool} → (t ≡ true → a ≡ b) → (t and a) ≡ (t and b)

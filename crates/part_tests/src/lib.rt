@@ -1,27 +1,37 @@
 // The test of a part: a header, its labels and the zeros after them.
 #![tactic(auto)]
 
-ghost use Rattle.std.specs.Prelude.{◌≡◌, ◌-◌, ◌<◌, length};
-ghost use Rattle.formed.specs.Tests.{labels_between, zeros as all_zero, part_ok};
-
-// The words are the labels of one list.
-fn labels_ok(words: &[u64]) -> bool
-    ensures { result ≡ labels_between words.now 0 (length words.now) }
-{
-    let mut last = 0;
-    for w in words {
-        if !word_tests::label_ok(last, *w) {
-            return false;
-        }
-        last = *w / 65536;
-    }
-    true
-}
+ghost use Rattle.std.specs.Prelude.{◌≡◌, ◌-◌, ◌≤◌, ◌<◌, length};
+ghost use Rattle.formed.specs.Tests.{◌and◌, labels_between, zeros as all_zero, part_ok};
 
 pub fn zeros(words: &[u64]) -> bool
     ensures { result ≡ all_zero words.now 0 (length words.now) }
 {
     words.iter().all(|w| *w == 0)
+}
+
+// The words after the header: labels of one list before `end`, and zeros from there on.
+// Kept: one loop over all words, by the index: a slot has the same number of words each time, so its labels are compiled word by word,
+// with no count, as they are not in two loops whose ends the header decides.
+fn words_ok(part: &[u64], end: usize) -> bool
+    requires { (0 < end) × (end ≤ length part.now) }
+    ensures { result ≡ (labels_between part.now 1 end and all_zero part.now end (length part.now)) }
+{
+    let mut last = 0;
+    for i in 1..part.len() {
+        let w = part[i];
+        if end <= i {
+            if w != 0 {
+                return false;
+            }
+            continue;
+        }
+        if !word_tests::follows(last, w) {
+            return false;
+        }
+        last = w / 65536;
+    }
+    last <= 64
 }
 
 // A part with its header first: as many labels as the header says, of one less than its words at most.
@@ -37,8 +47,5 @@ pub fn part_ok(part: &[u64]) -> bool
     if part.len() < end {
         return false;
     }
-    if !labels_ok(&part[1..end]) {
-        return false;
-    }
-    zeros(&part[end..])
+    words_ok(part, end)
 }

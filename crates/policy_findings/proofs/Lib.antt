@@ -1,4 +1,4 @@
 -- Laws of `policy_findings`.
-mod PolicyKinds
+pub mod PolicyKinds
 mod PolicyRows
 mod CandidateLaws

@@ -1,12 +1,13 @@
 -- The definitions of kinds 5 to 7 as rows: of an empty slot, and of irrelevance, which is one number or none.
 use mathlib.Core.Path.{◌≡◌, refl, sym, ap₂, ◌∙◌, fun_ext}
-use mathlib.Core.Bool.{Bool, true, false, ◌&&◌, ◌||◌, or-false, and-true, and-false}
+use mathlib.Core.Bool.{Bool, true, false, ◌&&◌, ◌||◌, or-false, and-true, and-false, true≢false}
 use mathlib.Core.List.{List}
 use Prim.Native.Nat.{ℕ, ◌≤◌}
 use native.Mathlib.Omega.{arith}
 use lib.Dec.{eqb}
 use borrow.Author.Tests.{ne_eqb}
 use Rattle.bitrow.specs.Set.{nothing, insert}
+use Rattle.bitrow.proofs.Sets.{point, nothing-at}
 use Rattle.model.specs.Model.{Model, Bits}
 use Rattle.model.specs.Findings.{shown, shadow, conflict, needless, irrelevance}
 use Rattle.formed.specs.Registry.{model_in, bits_in}
@@ -40,6 +41,14 @@ module _ (m : List ℕ) (k a : ℕ) where
     where
       none3 : (p q r : Bool) → ((p && false) || ((q && false) || (r && false))) ≡ false
       none3 p q r = rw (and-false p, and-false q, and-false r)
+
+-- where a finding over policies is, a policy stands
+pub shown-stands : (m : List ℕ) (k a b : ℕ) → 5 ≤ k → shown_at m k a b ≡ true → policies_stand m a ≡ true
+shown-stands m k a b l h = pick (policies_stand m a) refl
+  where
+    pick : (t : Bool) → policies_stand m a ≡ t → t ≡ true
+    pick true e = refl
+    pick false e = absurd (true≢false (sym h ∙ sym (point (no-policy m k a l e) b) ∙ nothing-at b))
 
 module _ (s w : Bool) where
   pub needless-zero : s ≡ false → insert 0 nothing ≡ needless s w

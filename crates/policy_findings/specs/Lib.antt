@@ -1,2 +1,3 @@
 -- What the contracts of `policy_findings` cite.
+pub mod PolicyView
 pub mod Candidates

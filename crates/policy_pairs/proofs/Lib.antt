@@ -4,3 +4,4 @@ pub mod PolicyReading
 pub mod SetTests
 pub mod CodeTests
 pub mod ComparisonLaws
+pub mod SharedContainers

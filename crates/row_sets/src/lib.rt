@@ -1,7 +1,7 @@
 // Sets of numbers below 256, made and joined, as rows by value.
 #![tactic(auto)]
 
-ghost use Rattle.std.specs.Prelude.{◌≡◌, ◌<◌, ◌-◌};
+ghost use Rattle.std.specs.Prelude.{◌≡◌, cond, ◌<◌, ◌-◌, ◌/◌, ◌%◌, eqb};
 ghost use Rattle.bitrow.specs.Bit.{bit, bit_at};
 ghost use Rattle.bitrow.specs.Set.{nothing, under, at_least, insert, remove, meet, join, less};
 
@@ -50,24 +50,37 @@ pub fn has(row: [u64; 4], i: usize) -> bool
     bitrow::bit_of(row[i / 64], i)
 }
 
+// Word k of the row of i alone.
+fn word_of(k: usize, i: usize) -> u64
+    ensures { bit result ≡ cond (eqb (i / 64) k) (insert (i % 64) nothing) nothing }
+{
+    if i / 64 == k {
+        bitrow::word_with(0, i)
+    } else {
+        0
+    }
+}
+
+// The number i alone. Each word is made by itself: a row that is changed at a word not known before is stored, and read again.
+fn only(i: usize) -> [u64; 4]
+    requires { i < 256 }
+    ensures { bit_at result ≡ insert i nothing }
+{
+    [word_of(0, i), word_of(1, i), word_of(2, i), word_of(3, i)]
+}
+
 pub fn with(row: [u64; 4], i: usize) -> [u64; 4]
     requires { i < 256 }
     ensures { bit_at result ≡ insert i (bit_at row) }
 {
-    let mut r = row;
-    let k = i / 64;
-    r[k] = bitrow::word_with(r[k], i);
-    r
+    either(row, only(i))
 }
 
 pub fn without(row: [u64; 4], i: usize) -> [u64; 4]
     requires { i < 256 }
     ensures { bit_at result ≡ remove i (bit_at row) }
 {
-    let mut r = row;
-    let k = i / 64;
-    r[k] = r[k] & !(1u64 << (i % 64));
-    r
+    except(row, only(i))
 }
 
 pub fn both(a: [u64; 4], b: [u64; 4]) -> [u64; 4]

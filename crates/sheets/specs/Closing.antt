@@ -24,9 +24,10 @@ count_step m = counting (memory_step m (ask counts)).1
 
 -- ---- the findings
 
--- how many findings a step puts at most, in a buffer of so many bytes: no line has more than 23
+-- how many findings a step puts at most, in a buffer of so many bytes: the line of one has at most ten, since its kind has one digit, and
+-- its a and b, which are below 256, have at most three
 unfoldable pub lines_in : ℕ → ℕ
-lines_in room = min 2048 (room / 23)
+lines_in room = min 7168 (room / 10)
 
 abbrev pub cursor_to : Place → Cursor
 cursor_to p = record { kind = p.kind; a = p.a; b = p.b }

@@ -7,7 +7,7 @@ ghost use Rattle.std.specs.Io.{ReadsAtMost, WritesAtMost};
 ghost use Rattle.std.specs.Io.KnownBytes.{Keeps, Appends, ReadConsumes, WriteAppends};
 ghost use Rattle.streams.specs.declared.Input.TheVariants.{Unused};
 ghost use Rattle.streams.specs.Calls.{Settles};
-ghost use Rattle.streams.specs.Bytes.{Within, ended_in, piece_of, left_in, after, to_come, TellsEnd, AppendsSome};
+ghost use Rattle.streams.specs.Bytes.{Within, ended_in, piece_of, left_in, after, used_whole, to_come, AppendsSome};
 
 use std::io::{self, Error, ErrorKind, Read, Write};
 use std::thread;
@@ -54,19 +54,19 @@ fn read<R: Read>(clock: &impl Clock, reader: &mut R, bytes: &mut [u8]) -> io::Re
     again(clock, &mut || reader.read(bytes))
 }
 
-// What is left of the input: of the bytes read last those from one place to before another, and then what the reader has, or no more,
+// What is left of the input: of the bytes read last those from one place to before another, and then what the reader has; or nothing,
 // since it has ended.
 #[derive(Clone, Copy)]
 pub enum Input {
     Unused(usize, usize),
-    Ended(usize, usize),
+    Ended,
 }
 
 impl Input {
     pub fn ended(self) -> bool
         ensures { result ≡ ended_in self }
     {
-        matches!(&self, Input::Ended(_, _))
+        matches!(&self, Input::Ended)
     }
 
     // What is left of the bytes read last.
@@ -74,8 +74,10 @@ impl Input {
         requires { Within self (length bytes.now) }
         ensures { result.now ≡ piece_of bytes.now self }
     {
-        let (Input::Unused(at, end) | Input::Ended(at, end)) = self;
-        &bytes[at..end]
+        match self {
+            Input::Unused(at, end) => &bytes[at..end],
+            Input::Ended => &bytes[..0],
+        }
     }
 
     // What is left where n more bytes were used.
@@ -85,7 +87,17 @@ impl Input {
     {
         match self {
             Input::Unused(at, end) => Input::Unused(at + n, end),
-            Input::Ended(at, end) => Input::Ended(at + n, end),
+            Input::Ended => Input::Ended,
+        }
+    }
+
+    // Whether a read filled a buffer of so many bytes, and all of them were used.
+    pub fn used_whole(self, room: usize) -> bool
+        ensures { result ≡ used_whole self room }
+    {
+        match self {
+            Input::Unused(at, _) => at >= room,
+            Input::Ended => false,
         }
     }
 }
@@ -108,13 +120,12 @@ pub fn refill<R: Read>(
     ensures within { IfOk result (λ r. Within r (length bytes.new)) }
     ensures fed { IfOk result (λ r. ended_in r ≡ false → 0 < left_in r) }
     ensures kept { (0 < left_in input → result ≡ Ok input) × (ended_in input ≡ true → result ≡ Ok input) }
-    ensures bytes { IfOk result (λ r. Keeps (to_come bytes.old input (R.remaining reader.old)) (to_come bytes.new r (R.remaining reader.new))) }
-    ensures end { IfOk result (λ r. 0 < length bytes.old → TellsEnd input (R.remaining reader.old) → TellsEnd r (R.remaining reader.new)) }
+    ensures bytes { IfOk result (λ r. 0 < length bytes.old → Keeps (to_come bytes.old input (R.remaining reader.old)) (to_come bytes.new r (R.remaining reader.new))) }
     ensures err { OnErr result (Keeps (R.remaining reader.old) (R.remaining reader.new)) }
 {
     match input {
         Input::Unused(at, end) if at >= end => match read(clock, reader, bytes)? {
-            0 => Ok(Input::Ended(0, 0)),
+            0 => Ok(Input::Ended),
             end => Ok(Input::Unused(0, end)),
         },
         _ => Ok(input),

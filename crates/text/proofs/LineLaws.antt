@@ -11,7 +11,7 @@ use Rattle.std.proofs.lemmas.List.{drop_all}
 use borrow.Rule.Slice.PartMut.{put_mid}
 use Rattle.buffer.specs.Buffer.{Puts}
 use Rattle.buffer.proofs.BufferLaws.{puts_none, puts_then, puts-size, puts-as}
-use Rattle.digits.proofs.DecimalLaws.{widths}
+use Rattle.digits.proofs.DecimalLaws.{within_20}
 use borrow.Author.Tests.{eq-eqb, ne_eqb}
 use Rattle.model.specs.declared.Finding.{Finding}
 use Rattle.model.specs.Findings.{finding_code}
@@ -95,7 +95,7 @@ to_put-less {d} {all} {e} {u} {v} g q h w = record {
 pub to_put-none : {d all e : List ℕ} {n : ℕ} {rest : List ℕ} → ToPut d all e n rest → rest ≡ [] → Puts d 0 all e n
 to_put-none g q = puts-as g.puts (sym (append-nil g.done) ∙ ap (λ (x : List ℕ). g.done ++ x) (sym q) ∙ g.whole)
 
-pub ruleset pieces = (widths, puts_behind, puts_none, puts-as)
+pub ruleset pieces = (within_20, puts_behind, puts_none, puts-as)
 
 -- ---- the answers to blocks
 

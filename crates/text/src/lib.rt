@@ -6,7 +6,7 @@ ghost use Rattle.buffer.specs.Buffer.{Puts};
 ghost use Rattle.block.specs.Refusal.{reason_number};
 ghost use Rattle.text.specs.Text.{named};
 ghost use Rattle.model.specs.Calls.{pairs_of};
-ghost use Rattle.text.specs.Lines.{refused_line, number_line, pair_lines, counts_line, code_line, code_lines};
+ghost use Rattle.text.specs.Lines.{refused_line, number_line, pair_lines, counts_line};
 
 use block::Reason;
 
@@ -19,30 +19,6 @@ fn put_named(out: &mut [u8], word: &[u8], n: u64, end: u8) -> usize
 {
     let name = digits::put_word(out, word, b' ');
     name + digits::put_decimal(&mut out[name..], n, end)
-}
-
-// Puts the line of a finding, given as one number.
-#[tactic(auto, using(crate::proofs::LineLaws::pieces), unfolding(crate::specs::Lines::code_line, crate::specs::Text::three_numbers))]
-pub fn put_finding(out: &mut [u8], code: u64) -> usize
-    requires { 23 ≤ length out.old }
-    ensures puts { Puts out.old 0 (code_line code) out.new result }
-    ensures lower_bound { (0 < result) × (result ≤ 23) }
-{
-    let mut put = digits::put_decimal(out, code / 4294967296, b' ');
-    put += digits::put_decimal(&mut out[put..], code / 65536 % 65536, b' ');
-    put + digits::put_decimal(&mut out[put..], code % 65536, b'\n')
-}
-
-// Puts the lines of findings, each given as one number.
-pub fn put_findings(out: &mut [u8], codes: &[u64]) -> usize
-    requires { 23 * length codes.now ≤ length out.old }
-    ensures { Puts out.old 0 (code_lines codes.now) out.new result }
-{
-    let mut put = 0;
-    for code in codes {
-        put += put_finding(&mut out[put..], *code);
-    }
-    put
 }
 
 // Puts the line of the block with this number, refused with this number.

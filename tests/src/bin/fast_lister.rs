@@ -1,8 +1,8 @@
 //! lister, as quick as plain Rust may be, for `bench`: nothing is proved, the tables have no stored bits, and all that the report
 //! says is worked out once at the end of the input. It prints what lister prints; refusals come with the rest.
 //!
-//! build.rs compiles it twice more: without the standard library, linked as lister is with the C library alone, so that both take
-//! as long to start; and linked statically.
+//! build.rs compiles it twice more, without the standard library, with the C library alone: linked as rt links lister, and statically,
+//! as bin/link-lister does, so that both take as long to start.
 
 #![cfg_attr(alone, no_std)]
 #![no_main]

@@ -7,8 +7,8 @@ use Rattle.block_bytes.proofs.checksum_to.Goals as goal
 
 pub returns-then-end-eq36 : goal.returns-then-end-eq36
 returns-then-end-eq36 c =
-    ap (λ (s : ℕ). s % 65521) (c.weighted_sum.ensures ∙ ap (weighted _) (sym c.if-end-eq36.true)) ∙ sym (used-checksum _ _ c.requires)
+    c.from.ensures ∙ ap (λ (s : ℕ). s % 65521) (c.weighted_sum.ensures ∙ ap (weighted _) (sym c.if-end-eq36.true)) ∙ sym (used-checksum _ _ c.requires)
 
 pub returns : goal.returns
 unfolding checksum
-returns c = ap (λ (s : ℕ). s % 65521) c.weighted_sum-2.ensures
+returns c = c.from-2.ensures ∙ ap (λ (s : ℕ). s % 65521) c.weighted_sum-2.ensures

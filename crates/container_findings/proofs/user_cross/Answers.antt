@@ -9,18 +9,17 @@ use Rattle.container_findings.proofs.user_cross.Goals as goal
 
 pub word_under-word-requires : goal.word_under-word-requires
 word_under-word-requires c =
-    let p = c.requires in
+    let p = c.requires.at in
     container-within _ p.formed.whole (formed-slots _ p.formed) _ p.below
 
-pub returns-then-word-eq0 : goal.returns-then-word-eq0
-returns-then-word-eq0 c =
-    let p = c.requires in
+pub returns-then-word-eq0-clause-row : goal.returns-then-word-eq0-clause-row
+returns-then-word-eq0-clause-row c =
+    let p = c.requires.at in
     let others-are = c.without-others.ensures ∙ ap (remove _) (c.both.ensures ∙ ap₂ meet p.slots (ap bit_at c.row_at-reached.ensures)) in
     cross-all _ _ p.here p.formed others-are c.word_under-word.ensures c.if-word-eq0.true
 
-pub returns : goal.returns
-returns c =
-    let p = c.requires in
+pub returns-clause-row : goal.returns-clause-row
+returns-clause-row c =
+    let p = c.requires.at in
     let others-are = c.without-others.ensures ∙ ap (remove _) (c.both.ensures ∙ ap₂ meet p.slots (ap bit_at c.row_at-reached.ensures)) in
-    c.except.ensures
-    ∙ cross-row _ _ p.here p.formed others-are c.word_under-word.ensures c.if-word-eq0.false c.same_user.ensures
+    c.except.ensures ∙ cross-row _ _ p.here p.formed others-are c.word_under-word.ensures c.if-word-eq0.false c.containers_of-own.ensures.row

@@ -1,50 +1,25 @@
-use Rattle.std.proofs.Common.{◌≤◌, ◌<◌, sym, ap, ◌∙◌, length, arith, rules}
-use Rattle.streams.specs.Bytes.{left_in, to_come}
-use Rattle.lister.proofs.Standing.{starts, refilled, stepped, failed, whole, begun, cut_short, piece-within, within_after, ended-after}
+use Rattle.std.proofs.Common.{sym, ◌∙◌}
+use Rattle.std.proofs.lemmas.Result.{on_ok_weaker, on_err_weaker}
+use Rattle.streams.proofs.Bytes.{on_err}
+use Rattle.lister.proofs.Standing.{went_on, ended_on, ended_there, stopped_on, out_of_buffer, whole, part}
 use Rattle.lister.proofs.pump.Goals as goal
 
-pub loop-state-init : goal.loop-state-init
-loop-state-init g c =
-    rw (c.start_state-state.ensures, c.nothing_read-input.ensures) (record {
-      kept = search rules;
-      started = search rules;
-      within = search rules;
-      told = λ some e. cc;
-      stands = starts _ _ _ _ _ c.told-memory c.told-block;
-    })
+pub returns-in_err-begun-clause-part : goal.returns-in_err-begun-clause-part
+returns-in_err-begun-clause-part g c = on_err _ (part _ _ c.told-memory c.told-block _ _ _ c.in_err-begun.ensures.stopped)
 
-pub loop-state-preserved : goal.loop-state-preserved
-loop-state-preserved g c =
-    let next = c.in-Ok.next in
-    let bytes = c.refill.new.bytes in
-    let refill = c.in-Ok.ensures in
-    let left = g.R.Read.remaining c.refill.new.reader in
-    let used = c.step-done.result.used in
-    let st = refilled {next = to_come bytes next left} refill.bytes c.loop-state.invariant.stands in
-    let told = λ (some : 0 < length c.args.bytes.now). refill.end (omega arith) (c.loop-state.invariant.told some) in
-    let does = rw (c.piece.ensures, c.ended.ensures) at c.step-done.ensures.does in
-    let fits : used ≤ left_in next = omega (arith, ap length c.piece.ensures, piece-within bytes next, c.step-done.ensures.used_in_bounds.0) in
-    rw c.used-input.ensures (record {
-      kept = search rules;
-      started = c.step-done.ensures.used_in_bounds.2;
-      within = within_after next (length bytes) used refill.within fits;
-      told = λ some e. told some (sym (ended-after next used) ∙ e);
-      stands = stepped bytes left next does told fits c.in_default.ensures.all st;
-    })
+pub returns-then-finished-clause-whole : goal.returns-then-finished-clause-whole
+returns-then-finished-clause-whole g c = whole _ _ c.told-memory c.told-block _ _ _ (ended_there (sym c.finished.ensures ∙ c.if-finished.true) c.in_ok-begun.ensures.went.1)
 
 pub returns-clause-whole : goal.returns-clause-whole
-returns-clause-whole g c = whole (sym c.finished.ensures ∙ c.loop-state-test.false) c.loop-state.invariant.stands
+returns-clause-whole g c =
+    let begun = c.in_ok-begun.ensures.went in
+    let none = c.in_ok-begun.ensures.used (sym c.finished.ensures ∙ c.if-finished.false) in
+    let went = went_on begun.1 (out_of_buffer _ _ _ c.in_ok-begun.begun.input (g.R.Read.remaining c.begin.new.reader) _ begun.0 none) in
+    on_ok_weaker _ (whole _ _ c.told-memory c.told-block (g.R.Read.remaining c.args.reader.now) (g.W.Write.contents c.args.writer.now) (g.W.Write.contents c.go_on.new.writer)) (on_ok_weaker _ (ended_on went) c.go_on.ensures.ended)
 
-pub returns-in-Err-clause-part : goal.returns-in-Err-clause-part
-returns-in-Err-clause-part g c = begun c.loop-state.invariant.stands
-
-pub returns-in-Err-write_whole-clause-part : goal.returns-in-Err-write_whole-clause-part
-returns-in-Err-write_whole-clause-part g c =
-    let next = c.in-Ok.next in
-    let bytes = c.refill.new.bytes in
-    let refill = c.in-Ok.ensures in
-    let left = g.R.Read.remaining c.refill.new.reader in
-    let st = refilled {next = to_come bytes next left} refill.bytes c.loop-state.invariant.stands in
-    let told = λ (some : 0 < length c.args.bytes.now). refill.end (omega arith) (c.loop-state.invariant.told some) in
-    let does = rw (c.piece.ensures, c.ended.ensures) at c.step-done.ensures.does in
-    failed bytes left _ next does told (cut_short (g.W.Write.contents c.loop-state.writer) (g.W.Write.contents c.write_whole.new.writer) c.step-done.new.out c.step-done.result.put c.in-Err-write_whole.ensures.part) st
+pub returns-clause-part : goal.returns-clause-part
+returns-clause-part g c =
+    let begun = c.in_ok-begun.ensures.went in
+    let none = c.in_ok-begun.ensures.used (sym c.finished.ensures ∙ c.if-finished.false) in
+    let went = went_on begun.1 (out_of_buffer _ _ _ c.in_ok-begun.begun.input (g.R.Read.remaining c.begin.new.reader) _ begun.0 none) in
+    on_err_weaker _ (part _ _ c.told-memory c.told-block (g.R.Read.remaining c.args.reader.now) (g.W.Write.contents c.args.writer.now) (g.W.Write.contents c.go_on.new.writer)) (on_err_weaker _ (stopped_on went) c.go_on.ensures.stopped)

@@ -1,16 +1,23 @@
-use borrow.Author.Rules.{rules}
-use borrow.Author.Tests.{tests}
-use mathlib.Core.Path.{refl, sym, ◌∙◌}
-use Rattle.std.proofs.lemmas.Iterator.{YieldsList-from_range}
-use Rattle.std.proofs.lemmas.Iterator.Search.{all_from_yields_List}
+-- A turn joins a row.
+use mathlib.Core.Path.{sym, ◌∙◌}
 use Rattle.bitrow.specs.Bit.{bit_at}
+use Rattle.model.specs.Model.{container_slots}
+use Rattle.word_tests.specs.Joined.{rows_ok}
 use Rattle.formed.specs.Tests.{matrix_row_ok, matrix_ok}
-use Rattle.formed.proofs.Listed.{between-listed}
+use Rattle.memory_tests.proofs.Turns.{first, turn, last}
 use Rattle.memory_tests.proofs.matrix_ok.Goals as goal
+
+pub loop-a-init : goal.loop-a-init
+loop-a-init c = λ s. first (matrix_row_ok c.args.memory.now s) container_slots (c.none-rows.ensures s)
+
+pub loop-a-preserved : goal.loop-a-preserved
+loop-a-preserved c = λ s.
+    let l = c.loop-a in
+    turn (matrix_row_ok c.args.memory.now s) container_slots (rows_ok l.rows s) _ l.a c.loop-a-test.true (c.with-next.ensures s) ∙ l.invariant s
 
 pub returns : goal.returns
 unfolding matrix_ok
 returns c =
-    all_from_yields_List (matrix_row_ok c.args.memory.now (bit_at c.args.standing)) _ _ c.all.result c.all.ensures.ran (YieldsList-from_range 0 256 256 refl refl)
-    (λ x b q k. search (rules, tests))
-    ∙ sym (between-listed (matrix_row_ok c.args.memory.now (bit_at c.args.standing)) 256)
+    let l = c.loop-a in
+    let s = bit_at c.args.standing in
+    c.ok.ensures ∙ sym (last (matrix_row_ok c.args.memory.now s) container_slots (rows_ok l.rows s) l.a c.loop-a-test.false) ∙ l.invariant s

@@ -1,10 +1,9 @@
 -- One case for each test of `part_ok` that fails, and the last decides.
-use Rattle.std.proofs.Common.{false, ◌≡◌, ◌∙◌, refl, sym, ap, ap₂, ℕ, ◌+◌, ◌-◌, ◌≤◌, ◌<◌, List, length, arith}
+use Rattle.std.proofs.Common.{false, ◌≡◌, ◌∙◌, sym, ap, ap₂, ℕ, ◌+◌, ◌-◌, ◌≤◌, ◌<◌, List, length, arith}
 use borrow.Author.Tests.{le-leb, lt-leb}
 use Rattle.store.specs.Layout.{word_at}
 use Rattle.formed.specs.Tests.{◌and◌, zeros, labels_between, part_ok}
-use Rattle.formed.proofs.Runs.{and-fails, and-passes, said-no, said-yes, zero-ltb, pos-ltb}
-use Rattle.part_tests.proofs.Slices.{labels-slice, zeros-slice}
+use Rattle.formed.proofs.Runs.{and-fails, and-passes, zero-ltb, pos-ltb}
 use Rattle.part_tests.proofs.part_ok.Goals as goal
 
 module _ (m : List ℕ) (some : 0 < length m) where
@@ -30,15 +29,5 @@ returns-then-end-eq0 c = sym (headless c.args.part.now c.requires c.if-end-eq0.t
 pub returns-then-part-end : goal.returns-then-part-end
 returns-then-part-end c = sym (too-long c.args.part.now c.requires c.if-end-eq0.false c.if-part-end.true)
 
-pub returns-then-not-labels_ok : goal.returns-then-not-labels_ok
-returns-then-not-labels_ok c =
-    let m = c.args.part.now in
-    sym (by-words m c.requires c.if-end-eq0.false c.if-part-end.false
-    ∙ and-fails _ _ (sym (labels-slice m 1 (word_at m 0) (omega arith) c.if-part-end.false) ∙ said-no c.labels_ok.ensures c.if-not-labels_ok.true))
-
 pub returns : goal.returns
-returns c =
-    let m = c.args.part.now in
-    c.zeros.ensures ∙ zeros-slice m (word_at m 0) (length m) c.if-part-end.false (omega arith)
-    ∙ sym (by-words m c.requires c.if-end-eq0.false c.if-part-end.false
-    ∙ and-passes _ _ (sym (labels-slice m 1 (word_at m 0) (omega arith) c.if-part-end.false) ∙ said-yes c.labels_ok.ensures c.if-not-labels_ok.false) refl)
+returns c = c.words_ok.ensures ∙ sym (by-words c.args.part.now c.requires c.if-end-eq0.false c.if-part-end.false)

@@ -3,5 +3,5 @@ use mathlib.Core.Path.{◌∙◌}
 use Rattle.container_findings.proofs.KindRows.{no_kind}
 use Rattle.policy_findings.proofs.policy_row_numbered.Goals as goal
 
-pub returns-in-None : goal.returns-in-None
-returns-in-None c = c.none.ensures ∙ no_kind _ _ _ c.in-None.ensures
+pub returns-in-None-clause-row : goal.returns-in-None-clause-row
+returns-in-None-clause-row c = c.none.ensures ∙ no_kind _ _ _ c.in-None.ensures

@@ -1,0 +1,2 @@
+-- Laws of `closing`.
+mod ShortLaws

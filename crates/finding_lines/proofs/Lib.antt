@@ -1,0 +1,3 @@
+-- Laws of `finding_lines`.
+mod EndLaws
+mod FrontLaws

@@ -1,0 +1,2 @@
+-- Laws of `finding_rows`.
+mod SlotLaws

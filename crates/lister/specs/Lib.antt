@@ -1,0 +1,2 @@
+-- What each part of the pump promises: the steps that it takes, and that it writes their text.
+pub mod Steps

@@ -1,0 +1,3 @@
+-- The laws behind the proofs of `selecting`.
+mod RowLaws
+mod TableLaws

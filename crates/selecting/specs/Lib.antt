@@ -1,0 +1,2 @@
+-- What the contracts of `selecting` cite.
+pub mod Selecting

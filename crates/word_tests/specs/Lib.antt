@@ -1,0 +1,2 @@
+-- What the contracts of `word_tests` cite.
+pub mod Joined
