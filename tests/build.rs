@@ -19,6 +19,9 @@ fn main() {
     compile(&source, &library, &["--crate-type=staticlib", "-Crelocation-model=static"]);
     let flags = ["-static", "-s", "-no-pie", "-Wl,--gc-sections,-z,noseparate-code,-z,norelro"];
     run(Command::new("cc").args(flags).args(["-o", &linked, &library]));
+    // written anew in one piece, as bin/link-lister does
+    let program = std::fs::read(&linked).unwrap();
+    std::fs::write(&linked, program).unwrap();
     println!("cargo:rustc-env=STATIC_FAST_LISTER={linked}");
     println!("cargo:rustc-check-cfg=cfg(alone)");
     println!("cargo:rerun-if-changed={source}");

@@ -1,2 +1,2 @@
 -- Laws of `closing`.
-mod ShortLaws
+mod ListingLaws

@@ -1,3 +1,4 @@
 -- Laws of `finding_lines`.
 mod EndLaws
 mod FrontLaws
+pub mod RowLines

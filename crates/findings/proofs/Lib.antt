@@ -3,6 +3,7 @@ pub mod Walk
 mod Inside
 pub mod NextFinding
 mod WholeRow
-mod PutSoFar
+pub mod ListedSoFar
+pub mod PutSoFar
 mod RowSearch
 pub mod InsideWalk

@@ -80,7 +80,7 @@ pub record WalkOver (m : List ℕ) (p : Place) (n : ℕ) (l : List Finding) (k a
   pub sized : SmallPlace (moved p l)
   pub reached : length l < n → ComeIn m (moved p l) k a from
 
-moved-append : (p : Place) (l r : List Finding) → moved p (l ++ r) ≡ moved (moved p l) r
+pub moved-append : (p : Place) (l r : List Finding) → moved p (l ++ r) ≡ moved (moved p l) r
 moved-append p [] r = refl
 moved-append p (g ∷ l) r = moved-append (place_of g) l r
 

@@ -1,4 +1,4 @@
--- A listing of the findings after a place, as many as a buffer holds, row after row.
+-- A listing of the findings after a place, as many as a buffer holds, each put as one number.
 use mathlib.Core.Path.{◌≡◌, refl, sym, ap, ◌∙◌}
 use mathlib.Core.Bool.{Bool, true, true≢false}
 use mathlib.Core.List.{List, [], ◌∷◌, ◌++◌, map, map-append}
@@ -24,17 +24,18 @@ use Rattle.findings.specs.Steps.{place_at}
 use Rattle.container_findings.specs.Rows.{shown_at}
 use Rattle.findings.proofs.Inside.{shown-inside}
 use Rattle.findings.proofs.Walk.{rank, SmallPlace}
+use Rattle.findings.proofs.ListedSoFar.{ListedSoFar, listed-part}
 use Rattle.findings.proofs.NextFinding.{next_in, walk-sized, ComeIn, reached-start, WalkOver, walked_none, walked_then, walked_row, walked-later, walked_all}
 
 -- ---- the number of a place
 
 -- of three numbers that a cursor can hold
 module _ (p : Place) (s : SmallPlace p) where
-  rank-small : rank p.kind p.a p.b < 281474976710656
+  pub rank-small : rank p.kind p.a p.b < 281474976710656
   unfolding finding_code
   rank-small = omega (arith, s.small_kind, s.small_a, s.small_b)
 
-  rank-place : place_at (rank p.kind p.a p.b) ≡ p
+  pub rank-place : place_at (rank p.kind p.a p.b) ≡ p
   unfolding finding_code
   rank-place =
       let n = rank p.kind p.a p.b in
@@ -46,93 +47,41 @@ module _ (p : Place) (s : SmallPlace p) where
       λ i. record { kind = k i; a = a i; b = b i }
 
 -- the last of some findings is at the place they lead to
-last_code : (p : Place) (l : List Finding) (n : ℕ) → length l ≡ suc n → get_or (map finding_code l) n 0 ≡ rank (moved p l).kind (moved p l).a (moved p l).b
+pub last_code : (p : Place) (l : List Finding) (n : ℕ) → length l ≡ suc n → get_or (map finding_code l) n 0 ≡ rank (moved p l).kind (moved p l).a (moved p l).b
 last_code p [] n e = absurd (omega arith)
 last_code p (g ∷ []) zero e = refl
 last_code p (g ∷ []) (suc n) e = absurd (omega arith)
 last_code p (g ∷ h ∷ l) zero e = absurd (omega arith)
 last_code p (g ∷ h ∷ l) (suc n) e = last_code (place_of g) (h ∷ l) n (omega arith)
 
-take-map : {A B : Type 0} (f : A → B) (n : ℕ) (l : List A) → take n (map f l) ≡ map f (take n l)
+pub take-map : {A B : Type 0} (f : A → B) (n : ℕ) (l : List A) → take n (map f l) ≡ map f (take n l)
 take-map f zero l = refl
 take-map f (suc n) [] = refl
 take-map f (suc n) (x ∷ l) = ap (λ t. f x ∷ t) (take-map f n l)
 
--- ---- the listing
+-- ---- the listing of their numbers
 
--- of the findings after p, put into d: e is d with those put so far, up to before `at`
-pub record PutSoFar (m : List ℕ) (p : Place) (d e : List ℕ) (k a from at : ℕ) : Type 0 where
-  pub found : List Finding
-  pub puts : Puts d 0 (map finding_code found) e at
-  pub walked : WalkOver m p (length d) found k a from
+-- of the findings after p, as many as d holds, put into d: e is d with those put so far, up to before `at`
+abbrev pub PutSoFar : List ℕ → Place → List ℕ → List ℕ → ℕ → ℕ → ℕ → ℕ → Type 0
+PutSoFar m p d e k a from at = ListedSoFar (map finding_code) m p (length d) d e k a from at at
 
-module _ (m : List ℕ) {p : Place} {d : List ℕ} where
-  pub listed-none : SmallPlace p → PutSoFar m p d d p.kind p.a (p.b + 1) 0
-  listed-none s = record { found = []; puts = puts_none (omega arith); walked = walked_none m s (λ h. reached-start m p s) }
+module _ (m : List ℕ) {p : Place} {d e : List ℕ} {k a from at : ℕ} (g : PutSoFar m p d e k a from at) where
+  size-kept : length e ≡ length d
+  size-kept = puts-size g.puts
 
-  module _ {e : List ℕ} {k a from at : ℕ} (g : PutSoFar m p d e k a from at) where
-    pub listed-size : length e ≡ length d
-    listed-size = puts-size g.puts
+  pub listed-room : at ≤ length e
+  listed-room = omega (arith, size-kept, g.puts.room)
 
-    pub listed-room : at ≤ length e
-    listed-room = omega (arith, listed-size, g.puts.room)
-
-    count : length g.found ≡ at
-    count = omega (arith, g.puts.stops, length-map g.found finding_code)
-
-    listed-reached : at < length e → ComeIn m (moved p g.found) k a from
-    listed-reached h = g.walked.reached (omega (arith, count, listed-size))
-
-    -- the findings of a row, as many as there is room for in the rest of the buffer
-    pub listed-row : a < 256 → at < length e → {row cut : ℕ → Bool} → row ≡ shown_at m k a → cut ≡ meet row (meet (at_least from) (under 256))
-        → {part : List ℕ} {n : ℕ} → Puts (take (length e - at) (drop at e)) 0 (take (length (take (length e - at) (drop at e))) (map finding_code (row_findings k a cut))) part n
-        → PutSoFar m p d (put_mid at (length e - at) e part) k (a + 1) 0 (at + n)
-    listed-row h l {cut = cut} er ec {part = part} {n = i} q =
-        let free = length d - length g.found in
-        let row = row_findings k a cut in
-        let put : Puts e at (map finding_code (take free row)) (put_mid at (length e - at) e part) (at + i) =
-        puts-as (puts-rest at listed-room (rw (rest-lent e at) at q)) (ap (λ j. take j (map finding_code row)) room ∙ take-map finding_code free row) in
-        record {
-          found = g.found ++ take free row;
-          puts = puts-as (puts_then g.puts put) (sym (map-append finding_code g.found (take free row)));
-          walked = walked_then m g.walked (walked_row m k a h er ec g.walked.sized free (listed-reached l));
-        }
-      where
-        room : length (drop at e) ≡ length d - length g.found
-        room = omega (arith, length-drop at e, listed-size, count)
-
-    listed-later : (j b : ℕ) → k ≤ j → (j ≡ k → a < b) → b ≤ 65536
-        → ((x y z : ℕ) → shown_at m x y z ≡ true → row_number k a ≤ row_number x y → row_number x y < row_number j b → ⊥) → PutSoFar m p d e j b 0 at
-    listed-later j b f h u n = record { found = g.found; puts = g.puts; walked = walked-later m g.walked j b f h u n }
-
-    -- the buffer is full, or no kind is left
-    listed-all : (k < 8 → length e ≤ at) → Puts d 0 (map finding_code (walk (next_in m) (length d) p)) e at
-    listed-all end = puts-as g.puts (ap (map finding_code) (sym (walked_all m g.walked (λ h. omega (arith, end h, count, listed-size)))))
-
-    pub listed-full : length e ≤ at → Puts d 0 (map finding_code (walk (next_in m) (length d) p)) e at
-    listed-full h = listed-all (λ l. h)
-
-  -- ---- by the rows, one after another
-
-  module _ {e : List ℕ} {s : Rows} {at : ℕ} (h : SlotsOf m s.slots.now) (g : PutSoFar m p d e s.kind s.slot s.from at) where
-    -- no finding is at a slot that is passed over
-    none-there : (j b : ℕ) → NoneTo s j b → (x y z : ℕ) → shown_at m x y z ≡ true → row_number s.kind s.slot ≤ row_number x y → row_number x y < row_number j b → ⊥
-    none-there j b n x y z t l u =
-        let i = shown-inside m x y z t in
-        true≢false (sym (h.each x y z t) ∙ n.clear x y i.low i.in_a l u)
-
-    -- the walk has come to the next row
-    pub listed-come : {r : Row} → r.slot < 256 → HereIs s r ⊎ LaterIs s r → PutSoFar m p d e (kind_number r.kind) r.slot r.from at
-    listed-come w (inl i) = rw (i.kind, i.slot, i.from) g
-    listed-come {r} w (inr i) = rw i.from (listed-later g (kind_number r.kind) r.slot i.far i.past (omega arith) (none-there (kind_number r.kind) r.slot i.none))
-
-    -- no row is left
-    pub listed-end : NoneTo s 8 0 → Puts d 0 (map finding_code (walk (next_in m) (length d) p)) e at
-    listed-end n = go (dec_lt s.kind 8)
-      where
-        go : Dec (s.kind < 8) → Puts d 0 (map finding_code (walk (next_in m) (length d) p)) e at
-        go (yes l) = listed-all (listed-later g 8 0 (omega arith) (λ q. absurd (omega arith)) (omega arith) (none-there 8 0 n)) (λ k. absurd (omega arith))
-        go (no l) = listed-all g (λ k. absurd (l k))
+  -- the findings of a row, as many as there is room for in the rest of the buffer
+  pub listed-row : a < 256 → at < length e → {row cut : ℕ → Bool} → row ≡ shown_at m k a → cut ≡ meet row (meet (at_least from) (under 256))
+      → {part : List ℕ} {n : ℕ} → Puts (take (length e - at) (drop at e)) 0 (take (length (take (length e - at) (drop at e))) (map finding_code (row_findings k a cut))) part n
+      → PutSoFar m p d (put_mid at (length e - at) e part) k (a + 1) 0 (at + n)
+  listed-row h l {cut = cut} er ec q =
+      let row = row_findings k a cut in
+      let room : length (drop at e) ≡ length d - at = omega (arith, length-drop at e, size-kept) in
+      let more = take (length d - at) row in
+      let put : Puts e at (map finding_code more) _ _ = puts-as (puts-rest at listed-room (rw (rest-lent e at) at q)) (ap (λ j. take j (map finding_code row)) room ∙ take-map finding_code (length d - at) row) in
+      listed-part (map finding_code) m g h (omega (arith, size-kept)) er ec (map-append finding_code) refl put (omega (arith, put.stops, length-map more finding_code))
 
 -- ---- what was put, all of it
 

@@ -16,7 +16,7 @@ use model::{Finding, Kind};
 use store::Words;
 
 // For so many findings and more, tables are worth filling.
-const MANY: usize = 16;
+pub const MANY: usize = 16;
 
 // A place in the list of findings: any three numbers.
 // Kept: `kind: u16`: the C interface: a cursor is C's, and may stand at any number, also where there is no kind.
@@ -36,21 +36,21 @@ pub struct Put {
 
 // The row of a kind's findings at a slot, from the number `from` on.
 #[derive(Clone, Copy)]
-struct Row {
-    kind: Kind,
-    slot: usize,
-    from: usize,
+pub struct Row {
+    pub kind: Kind,
+    pub slot: usize,
+    pub from: usize,
 }
 
 // The rows from a place on that can have a finding, kind after kind: those at the slots of each kind. That of the place itself is
 // from the number `from` on, each later one whole.
 // Kept: `kind: usize`: the rows begin where a cursor stands, which is C's: at any number, also where there is no kind.
 #[derive(Clone, Copy)]
-struct Rows<'a> {
-    slots: &'a [[u64; 4]; 8],
-    kind: usize,
-    slot: usize,
-    from: usize,
+pub struct Rows<'a> {
+    pub slots: &'a [[u64; 4]; 8],
+    pub kind: usize,
+    pub slot: usize,
+    pub from: usize,
 }
 
 impl<'a> Rows<'a> {
@@ -89,7 +89,7 @@ impl<'a> Iterator for Rows<'a> {
 }
 
 // The numbers of a row from this one on. That of nearly every row is 0.
-fn cut(row: [u64; 4], from: usize) -> [u64; 4]
+pub fn cut(row: [u64; 4], from: usize) -> [u64; 4]
     ensures { bit_at result ≡ meet (bit_at row) (meet (at_least from) (under 256)) }
 {
     if from == 0 {
@@ -99,7 +99,7 @@ fn cut(row: [u64; 4], from: usize) -> [u64; 4]
 }
 
 // The cursor at the finding whose number this is.
-fn cursor_at(code: u64) -> Cursor
+pub fn cursor_at(code: u64) -> Cursor
     requires { code < 281474976710656 }
     ensures { cursor_place result ≡ place_at code }
 {

@@ -120,7 +120,7 @@ module _ {d : List ℕ} {base word : ℕ} where
 unfoldable pub codes_from : ℕ → ℕ → List ℕ → ℕ → List ℕ
 codes_from k a r j = map (λ b. finding_code (finding k a b)) (members (bit_at r) (j * 64) (256 - j * 64))
 
-codes-next : (k a : ℕ) (r : List ℕ) (j : ℕ) → j < 4
+pub codes-next : (k a : ℕ) (r : List ℕ) (j : ℕ) → j < 4
     → codes_from k a r j ≡ map (λ i. k * 4294967296 + a * 65536 + j * 64 + i) (members (bit (get_or r j 0)) 0 64) ++ codes_from k a r (j + 1)
 unfolding codes_from finding_code
 codes-next k a r j h =
@@ -132,6 +132,16 @@ codes-next k a r j h =
     ∙ map-append (λ b. base + b) (map (λ i. j * 64 + i) low) high
     ∙ ap (λ l. l ++ map (λ b. base + b) high) (map-map (λ b. base + b) (λ i. j * 64 + i) low ∙ ap (λ f. map f low) (fun_ext (λ i. sym (add_assoc base (j * 64) i))))
 
+-- those of all words
+pub codes-all : (k a : ℕ) (r : List ℕ) → map finding_code (row_findings k a (bit_at r)) ≡ codes_from k a r 0
+unfolding codes_from row_findings
+codes-all k a r = map-map finding_code (finding k a) (members (bit_at r) 0 256)
+
+-- those of no word
+pub codes-end : (k a : ℕ) (r : List ℕ) (j : ℕ) → 4 ≤ j → codes_from k a r j ≡ []
+unfolding codes_from members
+codes-end k a r j h = let z : 256 - j * 64 ≡ 0 = omega arith in ap (λ n. map (λ b. finding_code (finding k a b)) (members (bit_at r) (j * 64) n)) z
+
 -- those of the words from word j on are still to be put
 pub record PuttingRow (d : List ℕ) (k a : ℕ) (r e : List ℕ) (at j : ℕ) : Type 0 where
   pub most : j ≤ 4
@@ -139,8 +149,7 @@ pub record PuttingRow (d : List ℕ) (k a : ℕ) (r e : List ℕ) (at j : ℕ) :
 
 module _ {d : List ℕ} {k a : ℕ} {r : List ℕ} where
   pub row-start : PuttingRow d k a r d 0 0
-  unfolding codes_from row_findings
-  row-start = record { most = omega arith; putting = subst (Putting d _ d 0) (map-map finding_code (finding k a) (members (bit_at r) 0 256)) (putting-none _) }
+  row-start = record { most = omega arith; putting = subst (Putting d _ d 0) (codes-all k a r) (putting-none _) }
 
   module _ {e : List ℕ} {at j : ℕ} (p : PuttingRow d k a r e at j) where
     pub row-size : length e ≡ length d
@@ -160,5 +169,4 @@ module _ {d : List ℕ} {k a : ℕ} {r : List ℕ} where
     }
 
     pub row_done : 4 ≤ j → Puts d 0 (take (length d) (map finding_code (row_findings k a (bit_at r)))) e at
-    unfolding codes_from members
-    row_done h = let z : 256 - j * 64 ≡ 0 = omega arith in putting-all p.putting (ap (λ n. map (λ b. finding_code (finding k a b)) (members (bit_at r) (j * 64) n)) z)
+    row_done h = putting-all p.putting (codes-end k a r j h)

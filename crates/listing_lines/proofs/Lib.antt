@@ -1,0 +1,3 @@
+-- Laws of `listing_lines`.
+mod FirstLines
+mod LinesSoFar

@@ -1,0 +1,2 @@
+-- What the contracts of `listing_lines` cite.
+pub mod GoesOn
