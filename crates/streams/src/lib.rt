@@ -121,6 +121,7 @@ pub fn refill<R: Read>(
     ensures fed { IfOk result (λ r. ended_in r ≡ false → 0 < left_in r) }
     ensures kept { (0 < left_in input → result ≡ Ok input) × (ended_in input ≡ true → result ≡ Ok input) }
     ensures bytes { IfOk result (λ r. 0 < length bytes.old → Keeps (to_come bytes.old input (R.remaining reader.old)) (to_come bytes.new r (R.remaining reader.new))) }
+    ensures empty { IfOk result (λ r. length bytes.old ≡ 0 → Keeps (R.remaining reader.old) (R.remaining reader.new)) }
     ensures err { OnErr result (Keeps (R.remaining reader.old) (R.remaining reader.new)) }
 {
     match input {
