@@ -26,7 +26,7 @@ use Rattle.answers.specs.declared.Admitted.{Admitted}
 use Rattle.answers.specs.declared.Admitted.TheVariants as admitted
 use Rattle.answers.specs.Answers.{admitted_answer}
 use Rattle.batch_blocks.specs.declared.Came.{Came}
-use Rattle.batch_blocks.specs.Blocks.{block_placed, slot_of, from_past, CameWith, FreeFrom}
+use Rattle.batch_blocks.specs.Blocks.{block_placed, slot_of, NoneCame, from_past, CameWith, FreeFrom}
 use Rattle.batch_blocks.proofs.Left.{left-model}
 
 -- ---- a table whose slots fill
@@ -95,8 +95,8 @@ slot-below (Ok (admitted.Container c)) f g = f c.0 refl
 slot-below (Ok (admitted.Policy q)) f g = omega (arith, g q.0 refl)
 
 -- before the first block
-pub free-from-none : (p : Model) {came : Came} → came.containers.from ≡ 0 → came.policies.from ≡ 0 → FreeFrom p came
-free-from-none p e f = record { containers = rw e (none-free-yet p.containers); policies = rw f (none-free-yet p.policies) }
+pub free-from-none : (p : Model) {came : Came} → NoneCame came → FreeFrom p came
+free-from-none p g = record { containers = rw g.container_from (none-free-yet p.containers); policies = rw g.policy_from (none-free-yet p.policies) }
 
 module _ (m b : List ℕ) {m' : List ℕ} (r : Result Admitted Reason) (placed : (m', admitted_answer r) ≡ block_placed m b) where
   abbrev now : Model

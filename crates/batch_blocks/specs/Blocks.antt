@@ -2,7 +2,7 @@
 use Rattle.std.specs.Prelude.{◌≡◌, Bool, List, ℕ, ◌+◌, Result, Ok, Err}
 use Rattle.std.proofs.Math.Option.{Option, none, some}
 use Rattle.bitrow.specs.Bit.{bit_at}
-use Rattle.bitrow.specs.Set.{insert}
+use Rattle.bitrow.specs.Set.{nothing, insert}
 use Rattle.block.specs.declared.Reason.{Reason}
 use Rattle.block.specs.Reader.{read_entry}
 use Rattle.model.specs.Model.{Model}
@@ -27,6 +27,13 @@ abbrev pub slot_of : Result Admitted Reason → ℕ
 slot_of (Err r) = 0
 slot_of (Ok (admitted.Container c)) = c.0
 slot_of (Ok (admitted.Policy q)) = q.0
+
+-- nothing came yet
+pub record NoneCame (came : Came) : Type 0 where
+  pub containers : bit_at came.containers.slots ≡ nothing
+  pub policies : bit_at came.policies.slots ≡ nothing
+  pub container_from : came.containers.from ≡ 0
+  pub policy_from : came.policies.from ≡ 0
 
 -- ---- one answer more
 

@@ -6,7 +6,7 @@ ghost use Rattle.std.specs.Prelude.{◌≡◌, ◌<◌};
 ghost use Rattle.std.proofs.Math.Option.{some};
 ghost use Rattle.formed.specs.Registry.{model_in, EntriesFormed};
 ghost use Rattle.answers.specs.Answers.{admitted_answer};
-ghost use Rattle.batch_blocks.specs.Blocks.{block_placed, slot_of, ArrivedWith, CameWith, FreeFrom};
+ghost use Rattle.batch_blocks.specs.Blocks.{block_placed, slot_of, NoneCame, ArrivedWith, CameWith, FreeFrom};
 
 use answers::Admitted;
 use block::{Reason, Sort};
@@ -37,6 +37,20 @@ impl Arrived {
             slots: row_sets::with(self.slots, slot),
             from: slot + 1,
         }
+    }
+}
+
+// Before the first block.
+pub fn none_came() -> Came
+    ensures { NoneCame result }
+{
+    let none = Arrived {
+        slots: row_sets::none(),
+        from: 0,
+    };
+    Came {
+        containers: none,
+        policies: none,
     }
 }
 

@@ -54,9 +54,9 @@ module _ (m bs d : List ℕ) (t : Tally) where
     formed = formed-entries m formed;
     fits = fit;
     placed = ap (entries_placed (registry_in m)) (sym (first-none bs));
-    free = free-from-none (model_in m) g.container_from g.policy_from;
-    containers = g.containers ∙ none_came (λ x. (said x).container) ∙ ap containers_came (sym no-answers);
-    policies = g.policies ∙ none_came (λ x. (said x).policy) ∙ ap policies_came (sym no-answers);
+    free = free-from-none (model_in m) g.none;
+    containers = g.none.containers ∙ none_came (λ x. (said x).container) ∙ ap containers_came (sym no-answers);
+    policies = g.none.policies ∙ none_came (λ x. (said x).policy) ∙ ap policies_came (sym no-answers);
     tally = g.tally ∙ ap (λ (l : List Answer). tallied t (map pair_of l)) (sym no-answers);
     list = puts-as (puts_none (omega arith)) (ap (λ (l : List Answer). numbers_of (map pair_of l)) (sym no-answers));
   }
@@ -151,8 +151,11 @@ module _ (m bs d : List ℕ) (t : Tally) where
     unfolding first_answers
     all-answers = ap (λ (l : List (List ℕ)). (run admitting_block (model_in m) l).1) (first-all bs k whole)
 
-    all_placed : registry_in m' ≡ entries_placed r (blocks_of bs)
+    pub all_placed : registry_in m' ≡ entries_placed r (blocks_of bs)
     all_placed = g.placed ∙ ap (entries_placed r) (first-all bs k whole)
+
+    pub list_done : Puts d 0 (numbers_of (map pair_of answers)) e (2 * k)
+    list_done = puts-as g.list (ap (λ (l : List Answer). numbers_of (map pair_of l)) all-answers)
 
     -- no stored bit has moved, and no slot was freed
     pub placed-formed : well_formed m' ≡ true
@@ -176,9 +179,6 @@ module _ (m bs d : List ℕ) (t : Tally) where
           ∙ ap (λ (x : List ℕ). (x, batch_answer t answers)) (sym settled-once)
 
       -- ---- the three promises
-
-      list_done : Puts d 0 (numbers_of (map pair_of answers)) e (2 * k)
-      list_done = puts-as g.list (ap (λ (l : List Answer). numbers_of (map pair_of l)) all-answers)
 
       tally-done : p.tally ≡ tallied t (map pair_of answers)
       tally-done = g.tally ∙ ap (λ (l : List Answer). tallied t (map pair_of l)) all-answers

@@ -1,7 +1,6 @@
 -- How far a batch has come.
 use Rattle.std.specs.Prelude.{◌≡◌, List, map, ℕ, ◌+◌, ◌*◌, ◌^◌, ◌<◌, take, set, Result, ⊤}
 use Rattle.bitrow.specs.Bit.{bit_at}
-use Rattle.bitrow.specs.Set.{nothing}
 use Rattle.buffer.specs.Buffer.{Puts}
 use Rattle.block.specs.declared.Reason.{Reason}
 use Rattle.block.specs.Refusal.{first_refusal}
@@ -17,7 +16,7 @@ use Rattle.formed.specs.Registry.{model_in, registry_in, EntriesFormed}
 use Rattle.call_tests.specs.Tests.{reason_of}
 use Rattle.answers.specs.declared.Admitted.{Admitted}
 use Rattle.answers.specs.Answers.{admitted_answer}
-use Rattle.batch_blocks.specs.Blocks.{block_placed, CameWith, FreeFrom}
+use Rattle.batch_blocks.specs.Blocks.{block_placed, NoneCame, CameWith, FreeFrom}
 use Rattle.batches.specs.declared.Progress.{Progress}
 
 -- 14 and 13
@@ -26,10 +25,7 @@ batch_test bs n = reason_of (first_refusal (batch_checks bs n))
 
 -- nothing came yet
 pub record Begun (t : Tally) (p : Progress) : Type 0 where
-  pub containers : bit_at p.came.containers.slots ≡ nothing
-  pub policies : bit_at p.came.policies.slots ≡ nothing
-  pub container_from : p.came.containers.from ≡ 0
-  pub policy_from : p.came.policies.from ≡ 0
+  pub none : NoneCame p.came
   pub tally : p.tally ≡ t
 
 -- the first i blocks, and the answers to them from the entries of m

@@ -13,7 +13,7 @@ ghost use Rattle.batch_blocks.specs.Blocks.{slot_of, FreeFrom};
 ghost use Rattle.batches.specs.Progress.{batch_test, Begun, TookBlock, BatchAt};
 
 use answers::Admitted;
-use batch_blocks::{Arrived, Came};
+use batch_blocks::Came;
 use block::Reason;
 use model::Tally;
 use store::Words;
@@ -28,15 +28,8 @@ pub struct Progress {
 fn begin(tally: Tally) -> Progress
     ensures { Begun tally result }
 {
-    let none = Arrived {
-        slots: row_sets::none(),
-        from: 0,
-    };
     Progress {
-        came: Came {
-            containers: none,
-            policies: none,
-        },
+        came: batch_blocks::none_came(),
         tally,
     }
 }
@@ -81,7 +74,7 @@ fn take_block(
 
 // All whole blocks of a batch, one after another; no stored bit changes.
 // Kept: as at `take_block`.
-fn take_blocks(memory: &mut Words, blocks: &[u8], answers: &mut [u16], tally: Tally) -> Progress
+pub fn take_blocks(memory: &mut Words, blocks: &[u8], answers: &mut [u16], tally: Tally) -> Progress
     requires { (well_formed memory.old ≡ true) × (2 * (length blocks.now / 512) ≤ length answers.old) }
     ensures { BatchAt memory.old blocks.now answers.old tally (length blocks.now / 512) memory.new answers.new result }
 {
@@ -120,9 +113,9 @@ pub fn admit_batch(
     ensures answers_after { answers.new ≡ overwritten answers.old (written (memory_step memory.old (change (admit_batch blocks.now (length answers.old) tally))).1) }
     ensures tally_value { tally_after tally result ≡ tally_left tally (memory_step memory.old (change (admit_batch blocks.now (length answers.old) tally))).1 }
 {
+    call_tests::test_memory(memory)?;
     // Kept: as at `admission::admit`.
     let memory: &mut Words = memory.as_mut_array().ok_or(Reason::MemorySize)?;
-    call_tests::test_memory(memory)?;
     test_batch(blocks, answers.len())?;
     let done = take_blocks(memory, blocks, answers, tally);
     arrivals::settle_came(memory, done.came.containers.slots, done.came.policies.slots);

@@ -1,4 +1,4 @@
--- What a listing of lines is of the call's answer, and what a refused call tells.
+-- What a listing of lines is of the call's answer.
 use mathlib.Core.Path.{◌≡◌, refl, sym, ap, ◌∙◌, subst}
 use mathlib.Core.Bool.{Bool, true, cond}
 use mathlib.Core.List.{List, map}
@@ -7,10 +7,8 @@ use native.Mathlib.Omega.{arith}
 use lib.ListN.{length, length-map}
 use lib.Dec.{ltb}
 use borrow.Author.Tests.{lt-ltb, le-ltb}
-use Rattle.std.specs.Prelude.{Err, Option, Some, None}
-use Rattle.block.specs.declared.Reason.{Reason}
+use Rattle.std.specs.Prelude.{Option, Some, None}
 use Rattle.buffer.specs.Buffer.{Puts}
-use Rattle.buffer.proofs.BufferLaws.{puts_none}
 use Rattle.model.specs.declared.Finding.{Finding}
 use Rattle.model.specs.Findings.{Place, next_after, walk, moved, finding_code}
 use Rattle.model.specs.Calls.{ask, list_findings}
@@ -19,20 +17,12 @@ use Rattle.steps.specs.MemoryStep.{memory_step}
 use Rattle.steps.proofs.Outcomes.{findings-answers}
 use Rattle.findings.specs.declared.Cursor.{Cursor}
 use Rattle.findings.specs.Steps.{cursor_place}
-use Rattle.call_tests.specs.Tests.{memory_test}
-use Rattle.call_tests.proofs.TestLaws.{memory-refused}
 use Rattle.text.specs.Lines.{code_lines}
 use Rattle.sheets.specs.declared.State.{State}
 use Rattle.sheets.specs.declared.State.TheVariants.{Listing, Finished}
 use Rattle.sheets.specs.Told.{Tells}
 use Rattle.sheets.specs.Closing.{cursor_to, listing}
 use Rattle.listing_lines.specs.GoesOn.{GoesOn}
-
--- refused, a call tells nothing, and is the last
-pub tells-refused : (m : List ℕ) (p : Place) (n : ℕ) {r : Reason} → memory_test m ≡ Err r → (d : List ℕ) → Tells (listing n (memory_step m (ask (list_findings p n))).1) d d (record { state = Finished; put = 0 })
-tells-refused m p n {r} e d =
-    subst (λ a. Tells (listing n a.1) d d (record { state = Finished; put = 0 })) (sym (memory-refused m r e (ask (list_findings p n)) refl))
-    (record { text = puts_none (omega arith); state = refl })
 
 module _ (m : List ℕ) (formed : well_formed m ≡ true) (p : Place) (n : ℕ) where
   abbrev found : List Finding

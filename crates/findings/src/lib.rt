@@ -74,6 +74,7 @@ impl<'a> Iterator for Rows<'a> {
     ghost remaining = { λ s. at_most ((8 - s.kind) * 257 + (256 - s.slot)) };
 
     fn next(&mut self) -> Option<Row> {
+        // Kept: the place itself is stepped, since the next call goes on from it: a `for` over the kinds would count beside it.
         while self.kind < 8 {
             if let Some(row) = self.row_of_kind() {
                 self.slot = row.slot + 1;

@@ -18,7 +18,7 @@ use Rattle.sheets.proofs.Onward.{step-onward}
 use Rattle.streams.specs.declared.Input.{Input}
 use Rattle.streams.specs.declared.Input.TheVariants.{Unused, Ended}
 use Rattle.streams.specs.Bytes.{Within, ended_in, piece_of, left_in, after, unread, to_come, AppendsSome}
-use Rattle.lister.specs.Steps.{Point, step_from, next_point, Steps, Place, place, known_at, Leads, Ends, Stops, WentTo, WentToEnd, Stopped}
+use Rattle.lister.specs.Steps.{Point, step_from, next_point, Steps, Place, place, known_at, Led, Reached, ReachedEnd, CutOff, Went, WentTo, WentToEnd, Stopped}
 use Rattle.lister.specs.Steps.Steps.{none, more}
 
 -- ---- what is known where the input is
@@ -42,53 +42,45 @@ joined {a} {t = t} s (more d u p q ended room r e f) =
 pub went_nowhere : (a : Place) (w : Option (List ℕ)) → WentTo a a w w
 went_nowhere a w = record { known = nowhere a.coming refl }
   where
-    nowhere : (k : Option (List ℕ)) → a.coming ≡ k → IfSome k (λ i. Leads (known_at a i) a w w)
+    nowhere : (k : Option (List ℕ)) → a.coming ≡ k → IfSome k (λ i. Led (known_at a i) (Reached a w w))
     nowhere None e = tt
-    nowhere (Some i) e = record { coming = i; is_coming = e; text = []; steps = none; written = Appends-nil w }
+    nowhere (Some i) e = record { to = known_at a i; text = []; steps = none; so = record { there = ap (λ k. place a.memory a.block a.state k) e; written = Appends-nil w } }
 
-module _ {a b : Place} {old new next : Option (List ℕ)} (went : WentTo a b old new) where
-  pub went_on : {c : Place} → WentTo b c new next → WentTo a c old next
-  went_on {c} h = record {
+module _ {a b : Place} {old new : Option (List ℕ)} (went : WentTo a b old new) where
+  -- what holds of where the next steps led and of their text, holds of it with the text before it
+  led_on : {Q R : Point → List ℕ → Type 0} → ((to : Point) (x t : List ℕ) → Appends old new x → Q to t → R to (x ++ t)) → Went b Q → Went a R
+  led_on {Q} {R} h on = record {
     known = if_known a.coming (λ i _ x.
-        let y = known_as (λ j. Leads (known_at b j) c new next) b.coming x.coming x.is_coming h.known in
-        record {
-          coming = y.coming;
-          is_coming = y.is_coming;
-          text = x.text ++ y.text;
-          steps = joined x.steps y.steps;
-          written = Appends-trans old new next x.text y.text x.written y.written;
-        }) went.known;
-  }
-
-  pub ended_on : WentToEnd b new next → WentToEnd a old next
-  ended_on h = record {
-    known = if_known a.coming (λ i _ x.
-        let y = known_as (λ j. Ends (known_at b j) new next) b.coming x.coming x.is_coming h.known in
-        record {
-          to = y.to;
-          is_end = y.is_end;
-          text = x.text ++ y.text;
-          steps = joined x.steps y.steps;
-          written = Appends-trans old new next x.text y.text x.written y.written;
-        }) went.known;
-  }
-
-  pub stopped_on : Stopped b new next → Stopped a old next
-  stopped_on h = record {
-    known = if_known a.coming (λ i _ x.
-        let y = known_as (λ j. Stops (known_at b j) new next) b.coming x.coming x.is_coming h.known in
-        let k = y.written.0 in
+        let y = known_as (λ j. Led (known_at b j) Q) b.coming x.to.coming (ap (λ p. p.coming) x.so.there) on.known in
         record {
           to = y.to;
           text = x.text ++ y.text;
-          steps = joined x.steps y.steps;
-          written = (length x.text + k, omega (arith, y.written.1, length-append x.text y.text), subst (Appends old next) (sym (take-append-add x.text y.text k)) (Appends-trans old new next x.text (take k y.text) x.written y.written.2));
+          steps = joined x.steps (subst (λ p. Steps p y.to y.text) (ap (λ p. known_at p x.to.coming) x.so.there) y.steps);
+          so = h y.to x.text y.text x.so.written y.so;
         }) went.known;
   }
+
+  pub went_on : {c : Place} {next : Option (List ℕ)} → WentTo b c new next → WentTo a c old next
+  went_on {next = next} = led_on (λ to x t w q. record { there = q.there; written = Appends-trans old new next x t w q.written })
+
+  pub ended_on : {next : Option (List ℕ)} → WentToEnd b new next → WentToEnd a old next
+  ended_on {next} = led_on (λ to x t w q. record { is_end = q.is_end; written = Appends-trans old new next x t w q.written })
+
+  pub stopped_on : {next : Option (List ℕ)} → Stopped b new next → Stopped a old next
+  stopped_on {next} = led_on (λ to x t w q.
+      let k = q.written.0 in
+      record {
+        written = (length x + k, omega (arith, q.written.1, length-append x t), subst (Appends old next) (sym (take-append-add x t k)) (Appends-trans old new next x (take k t) w q.written.2));
+      })
 
 pub ended_there : {a b : Place} {old new : Option (List ℕ)} → finished_in b.state ≡ true → WentTo a b old new → WentToEnd a old new
-ended_there {a} {b} e went = record {
-  known = if_known a.coming (λ i _ x. record { to = known_at b x.coming; is_end = e; text = x.text; steps = x.steps; written = x.written }) went.known;
+ended_there {a} e went = record {
+  known = if_known a.coming (λ i _ x. record {
+    to = x.to;
+    text = x.text;
+    steps = x.steps;
+    so = record { is_end = sym (ap (λ p. finished_in p.state) x.so.there) ∙ e; written = x.so.written };
+  }) went.known;
 }
 
 -- ---- a piece of the input in a buffer
@@ -117,10 +109,6 @@ piece_fed bytes Ended h = omega arith
 pub within_after : (from : Input) (room u : ℕ) → Within from room → u ≤ left_in from → Within (after from u) room
 within_after (Unused a e) room u w h = (omega arith, w.1)
 within_after Ended room u w h = tt
-
-pub within_larger : (from : Input) (room larger : ℕ) → room ≤ larger → Within from room → Within from larger
-within_larger (Unused a e) room larger h w = (w.0, omega (arith, w.1))
-within_larger Ended room larger h w = tt
 
 pub ended_within : (from : Input) (room : ℕ) → ended_in from ≡ true → Within from room
 ended_within (Unused a e) room h = absurd (false≢true h)
@@ -201,20 +189,20 @@ module _ (m k bytes o e n l : List ℕ) (s : State) (before left old new : Optio
   pub turned : done.used ≤ left_in from → Appends old new (take done.put e) → WentTo (place m k s before) (place n l done.state (to_come bytes (after from done.used) left)) old new
   turned h w = record { known = known before refl }
     where
-      leads : (i : List ℕ) → Parts i → Leads (record { memory = m; block = k; state = s; coming = i }) (place n l done.state (to_come bytes (after from done.used) left)) old new
+      leads : (i : List ℕ) → Parts i → Led (record { memory = m; block = k; state = s; coming = i }) (Reached (place n l done.state (to_come bytes (after from done.used) left)) old new)
       leads i z =
           let used : piece_of bytes (after from done.used) ≡ drop y.used (piece_of bytes from) =
           piece-after bytes from done.used h ∙ ap (λ u. drop u (piece_of bytes from)) does.used in
           let rest : unread (after from done.used) left ≡ Some z.0 = unread-after from done.used left ∙ z.1 in
           record {
-            coming = drop y.used (piece_of bytes from) ++ z.0;
-            is_coming = rw (used, rest) refl;
+            to = record { memory = n; block = l; state = done.state; coming = drop y.used (piece_of bytes from) ++ z.0 };
             text = y.text;
             steps = steps-to y.memory n y.block l _ y.state done.state does.memory does.block does.state (step-in i z);
-            written = subst (Appends old new) all-put w;
+            so = record { there = rw (used, rest) refl; written = subst (Appends old new) all-put w };
           }
 
-      known : (b : Option (List ℕ)) → before ≡ b → IfSome b (λ i. Leads (record { memory = m; block = k; state = s; coming = i }) (place n l done.state (to_come bytes (after from done.used) left)) old new)
+      known : (b : Option (List ℕ)) → before ≡ b
+          → IfSome b (λ i. Led (record { memory = m; block = k; state = s; coming = i }) (Reached (place n l done.state (to_come bytes (after from done.used) left)) old new))
       known None d = tt
       known (Some i) d = leads i (in_parts before (piece_of bytes from) i (unread from left) d kept)
 
@@ -222,7 +210,7 @@ module _ (m k bytes o e n l : List ℕ) (s : State) (before left old new : Optio
   pub cut_off : AppendsSome old new (take done.put e) (length (take done.put e)) → Stopped (place m k s before) old new
   cut_off w = record { known = known before refl }
     where
-      known : (b : Option (List ℕ)) → before ≡ b → IfSome b (λ i. Stops (record { memory = m; block = k; state = s; coming = i }) old new)
+      known : (b : Option (List ℕ)) → before ≡ b → IfSome b (λ i. Led (record { memory = m; block = k; state = s; coming = i }) (CutOff old new))
       known None d = tt
       known (Some i) d =
           let z = in_parts before (piece_of bytes from) i (unread from left) d kept in
@@ -230,16 +218,16 @@ module _ (m k bytes o e n l : List ℕ) (s : State) (before left old new : Optio
             to = next_point y (piece_of bytes from) z.0;
             text = y.text;
             steps = step-in i z;
-            written = subst (λ (t : List ℕ). AppendsSome old new t (length t)) all-put w;
+            so = record { written = subst (λ (t : List ℕ). AppendsSome old new t (length t)) all-put w };
           }
 
 -- no step was taken, and nothing written
 pub stopped_there : (a : Place) (w : Option (List ℕ)) → Stopped a w w
 stopped_there a w = record { known = there a.coming }
   where
-    there : (k : Option (List ℕ)) → IfSome k (λ i. Stops (known_at a i) w w)
+    there : (k : Option (List ℕ)) → IfSome k (λ i. Led (known_at a i) (CutOff w w))
     there None = tt
-    there (Some i) = record { to = known_at a i; text = []; steps = none; written = (0, omega arith, Appends-nil w) }
+    there (Some i) = record { to = known_at a i; text = []; steps = none; so = record { written = (0, omega arith, Appends-nil w) } }
 
 -- ---- the sheet
 
@@ -280,13 +268,13 @@ module _ (m k : List ℕ) (words : length m ≡ memory_words) (size : length k �
   pub whole : (known old new : Option (List ℕ)) → WentToEnd (place m k start_state known) old new → IfSome known (λ i. length i < 2 ^ 64 → Appends old new (sheet i))
   whole known old new h = if_known known (λ i _ x short.
       let y = steps-due (sheet i) x.steps size (starts i short) in
-      let all : sheet i ≡ x.text = y.text ∙ ap (λ l. x.text ++ l) (none-due x.to.state x.to.memory x.to.block x.to.coming y.rest x.is_end y.due) ∙ append-nil x.text in
-      subst (Appends old new) (sym all) x.written) h.known
+      let all : sheet i ≡ x.text = y.text ∙ ap (λ l. x.text ++ l) (none-due x.to.state x.to.memory x.to.block x.to.coming y.rest x.so.is_end y.due) ∙ append-nil x.text in
+      subst (Appends old new) (sym all) x.so.written) h.known
 
   pub part : (known old new : Option (List ℕ)) → Stopped (place m k start_state known) old new → IfSome known (λ i. length i < 2 ^ 64 → AppendsSome old new (sheet i) (length (sheet i)))
   part known old new h = if_known known (λ i _ x short.
       let y = steps-due (sheet i) x.steps size (starts i short) in
-      let n = x.written.0 in
-      let same : take n (sheet i) ≡ take n x.text = ap (take n) y.text ∙ take-append-le n x.text y.rest x.written.1 in
+      let n = x.so.written.0 in
+      let same : take n (sheet i) ≡ take n x.text = ap (take n) y.text ∙ take-append-le n x.text y.rest x.so.written.1 in
       let few : length (sheet i) ≡ length x.text + length y.rest = ap length y.text ∙ length-append x.text y.rest in
-      (n, omega (arith, x.written.1, few), subst (Appends old new) (sym same) x.written.2)) h.known
+      (n, omega (arith, x.so.written.1, few), subst (Appends old new) (sym same) x.so.written.2)) h.known

@@ -41,38 +41,38 @@ place m k s i = record { memory = m; block = k; state = s; coming = i }
 abbrev pub known_at : Place → List ℕ → Point
 known_at a i = record { memory = a.memory; block = a.block; state = a.state; coming = i }
 
--- ---- from a point on, where a writer held the bytes `old`, and holds `new`
+-- ---- where steps led, and their text, of a writer that held the bytes `old`, and holds `new`
 
--- Steps led to b, and all of their text was written.
-pub record Leads (a : Point) (b : Place) (old new : Option (List ℕ)) : Type 0 where
-  pub coming : List ℕ
-  pub is_coming : b.coming ≡ Some coming
+-- Steps led from the point a to some other, and of that and of their text holds what Q says.
+pub record Led (a : Point) (Q : Point → List ℕ → Type 0) : Type 0 where
+  pub to : Point
   pub text : List ℕ
-  pub steps : Steps a (known_at b coming) text
+  pub steps : Steps a to text
+  pub so : Q to text
+
+-- to b, and all of the text was written
+pub record Reached (b : Place) (old new : Option (List ℕ)) (to : Point) (text : List ℕ) : Type 0 where
+  pub there : b ≡ place to.memory to.block to.state (Some to.coming)
   pub written : Appends old new text
 
--- Steps led to the end of the sheet, and all of their text was written.
-pub record Ends (a : Point) (old new : Option (List ℕ)) : Type 0 where
-  pub to : Point
+-- to the end of the sheet, and all of the text was written
+pub record ReachedEnd (old new : Option (List ℕ)) (to : Point) (text : List ℕ) : Type 0 where
   pub is_end : finished_in to.state ≡ true
-  pub text : List ℕ
-  pub steps : Steps a to text
   pub written : Appends old new text
 
--- Of the text of some steps, only the first bytes were written.
-pub record Stops (a : Point) (old new : Option (List ℕ)) : Type 0 where
-  pub to : Point
-  pub text : List ℕ
-  pub steps : Steps a to text
+-- of the text only the first bytes were written
+pub record CutOff (old new : Option (List ℕ)) (to : Point) (text : List ℕ) : Type 0 where
   pub written : AppendsSome old new text (length text)
 
--- ---- the same from a place on, where the input that is still to come is known there
+-- the same from a place on, where the input that is still to come is known there
+pub record Went (a : Place) (Q : Point → List ℕ → Type 0) : Type 0 where
+  pub known : IfSome a.coming (λ i. Led (known_at a i) Q)
 
-pub record WentTo (a b : Place) (old new : Option (List ℕ)) : Type 0 where
-  pub known : IfSome a.coming (λ i. Leads (known_at a i) b old new)
+abbrev pub WentTo : Place → Place → Option (List ℕ) → Option (List ℕ) → Type 0
+WentTo a b old new = Went a (Reached b old new)
 
-pub record WentToEnd (a : Place) (old new : Option (List ℕ)) : Type 0 where
-  pub known : IfSome a.coming (λ i. Ends (known_at a i) old new)
+abbrev pub WentToEnd : Place → Option (List ℕ) → Option (List ℕ) → Type 0
+WentToEnd a old new = Went a (ReachedEnd old new)
 
-pub record Stopped (a : Place) (old new : Option (List ℕ)) : Type 0 where
-  pub known : IfSome a.coming (λ i. Stops (known_at a i) old new)
+abbrev pub Stopped : Place → Option (List ℕ) → Option (List ℕ) → Type 0
+Stopped a old new = Went a (CutOff old new)

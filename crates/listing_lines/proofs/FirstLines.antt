@@ -1,18 +1,16 @@
 -- The first findings of a row: their numbers, put into a list, have short lines.
-use mathlib.Core.Path.{◌≡◌, refl, sym, ap, ◌∙◌, subst}
+use mathlib.Core.Path.{◌≡◌, ap, ◌∙◌, subst}
 use mathlib.Core.Bool.{Bool, true, false, cond}
 use mathlib.Core.List.{List, [], ◌∷◌, ◌++◌, map, append-nil}
-use Prim.Native.Nat.{ℕ, zero, suc, ◌+◌, ◌-◌, ◌*◌, ◌≤◌, ◌<◌}
-use native.Mathlib.Nat.{zero-add}
+use Prim.Native.Nat.{ℕ, zero, suc, ◌+◌, ◌≤◌, ◌<◌}
 use native.Mathlib.Omega.{arith}
-use lib.ListN.{length, take, drop, get_or, length-map}
+use lib.ListN.{length, take, get_or, length-map}
 use lib.Seq.{length-take-le}
 use Rattle.std.proofs.lemmas.List.{drop_all}
 use Rattle.std.specs.List.{All}
 use Rattle.std.proofs.lemmas.List.Elements.{All-nil, All-cons, All-head, All-tail, All-get_or}
 use Rattle.bitrow.specs.Set.{size}
 use Rattle.buffer.specs.Buffer.{Puts}
-use Rattle.model.specs.declared.Finding.{Finding}
 use Rattle.model.specs.declared.Kind.{Kind}
 use Rattle.model.specs.declared.Kind.TheVariants.{AllReachable, AllIsolated, UserCross, SystemIsolation, Shadow, Conflict, Irrelevance}
 use Rattle.model.specs.Kinds.{kind_number}

@@ -1,8 +1,8 @@
 -- The lines of a listing, row after row.
 use mathlib.Core.Path.{◌≡◌, refl, sym, ap, ◌∙◌, subst}
-use mathlib.Core.Bool.{Bool, true}
-use mathlib.Core.List.{List, [], ◌++◌, map, map-append}
-use Prim.Native.Nat.{ℕ, suc, ◌+◌, ◌-◌, ◌*◌, ◌≤◌, ◌<◌}
+use mathlib.Core.Bool.{Bool}
+use mathlib.Core.List.{List, ◌++◌, map, map-append}
+use Prim.Native.Nat.{ℕ, suc, ◌+◌, ◌-◌, ◌≤◌, ◌<◌}
 use native.Mathlib.Omega.{arith}
 use lib.ListN.{length, take, drop, get_or, length-append}
 use lib.Seq.{take_all}
@@ -18,7 +18,8 @@ use Rattle.row_listing.proofs.Putting.{rest-lent, puts-rest}
 use Rattle.row_listing.proofs.Sizes.{row-count}
 use Rattle.container_findings.specs.Rows.{shown_at}
 use Rattle.findings.specs.declared.Cursor.{Cursor}
-use Rattle.findings.specs.Steps.{cursor_place, place_at}
+use Rattle.findings.specs.declared.Rows.{Rows}
+use Rattle.findings.specs.Steps.{cursor_place, place_at, place_from}
 use Rattle.findings.proofs.Walk.{rank, SmallPlace}
 use Rattle.findings.proofs.NextFinding.{next_in, walk-sized, moved-append}
 use Rattle.findings.proofs.ListedSoFar.{ListedSoFar, listed-none, listed-part, listed-ends, listed-all}
@@ -26,6 +27,7 @@ use Rattle.findings.proofs.PutSoFar.{last_code, rank-place}
 use Rattle.text.specs.Lines.{code_lines}
 use Rattle.finding_lines.proofs.RowLines.{lines-then, lines-none}
 use Rattle.listing_lines.specs.GoesOn.{GoesOn}
+use Rattle.listing_lines.specs.RowsIn.{RowsIn, place_before}
 use Rattle.listing_lines.proofs.FirstLines.{first-count}
 
 abbrev pub lines_of : List Finding → List ℕ
@@ -38,10 +40,22 @@ lines_of-then l r = ap code_lines (map-append finding_code l r) ∙ lines-then (
 abbrev pub LinesSoFar : List ℕ → Place → ℕ → List ℕ → List ℕ → ℕ → ℕ → ℕ → ℕ → ℕ → Type 0
 LinesSoFar m p n d e k a from count at = ListedSoFar lines_of m p n d e k a from count at
 
-module _ (m : List ℕ) {p : Place} {n : ℕ} {d : List ℕ} where
-  pub lines_so_far-none : SmallPlace p → LinesSoFar m p n d d p.kind p.a (p.b + 1) 0 0
-  lines_so_far-none s = listed-none lines_of m lines-none s
+-- the rows begin
+pub before-small : {m : List ℕ} {s : Rows} → RowsIn m s → SmallPlace (place_before s)
+before-small r = record { small_kind = r.kind; small_a = r.slot; small_b = omega (arith, r.from.1) }
 
+pub lines_so_far-none : (m : List ℕ) {s : Rows} {n : ℕ} {d : List ℕ} → RowsIn m s → LinesSoFar m (place_before s) n d d s.kind s.slot s.from 0 0
+lines_so_far-none m {s} {n} {d} r =
+    let first : s.from - 1 + 1 ≡ s.from = omega (arith, r.from.0) in
+    subst (λ f. LinesSoFar m (place_before s) n d d s.kind s.slot f 0 0) first (listed-none lines_of m lines-none (before-small r))
+
+-- they begin after a cursor
+pub before-cursor : {c : Cursor} {k a b : ℕ} → k ≡ c.kind → a ≡ c.a → b ≡ c.b → place_from k a (b + 1 - 1) ≡ cursor_place c
+before-cursor {c} ek ea eb =
+    let z : c.b + 1 - 1 ≡ c.b = omega arith in
+    rw (ek, ea, eb, z) refl
+
+module _ (m : List ℕ) {p : Place} {n : ℕ} {d : List ℕ} where
   module _ {e : List ℕ} {k a from count at : ℕ} (g : LinesSoFar m p n d e k a from count at) where
     pub lines_so_far-room : at ≤ length e
     lines_so_far-room = omega (arith, puts-size g.puts, g.puts.room)

@@ -1,2 +1,3 @@
 -- What the contracts of `listing_lines` cite.
 pub mod GoesOn
+pub mod RowsIn

@@ -8,10 +8,12 @@ ghost use Rattle.buffer.specs.Buffer.{Puts};
 ghost use Rattle.model.specs.Kinds.{kind_number};
 ghost use Rattle.model.specs.Findings.{next_after, walk, finding_code};
 ghost use Rattle.formed.specs.Registry.{model_in, bits_in, well_formed};
+ghost use Rattle.finding_rows.specs.View.{ViewOf};
 ghost use Rattle.row_listing.specs.Listing.{row_findings};
 ghost use Rattle.findings.specs.Steps.{cursor_place, place_at};
 ghost use Rattle.text.specs.Lines.{code_lines};
 ghost use Rattle.listing_lines.specs.GoesOn.{GoesOn};
+ghost use Rattle.listing_lines.specs.RowsIn.{RowsIn, place_before};
 
 use finding_rows::View;
 use findings::{Cursor, MANY, Rows};
@@ -56,8 +58,36 @@ fn put_first_lines(out: &mut [u8], kind: Kind, a: usize, row: [u64; 4], wanted: 
     put_listed(out, &mut list[..wanted], kind, a, row)
 }
 
-// Puts the lines of the findings after the cursor's three numbers, whatever they are, as many as are wanted. A row that ends before that
-// many is put whole; of the row with the last of them only the first are.
+// Puts the lines of the findings of these rows, as many as are wanted. A row that ends before that many is put whole; of the row with the
+// last of them only the first are.
+fn put_rows(memory: &Words, view: &mut View, rows: Rows, out: &mut [u8], wanted: usize) -> Lines
+    requires { (well_formed memory.now ≡ true) × ViewOf memory.now view.old × RowsIn memory.now rows × (0 < wanted) × (10 * wanted ≤ length out.old) }
+    ensures lines { Puts out.old 0 (code_lines (map finding_code (walk (next_after (model_in memory.now) (bits_in memory.now)) wanted (place_before rows.entry)))) out.new result.put }
+    ensures goes_on { GoesOn wanted (place_before rows.entry) (walk (next_after (model_in memory.now) (bits_in memory.now)) wanted (place_before rows.entry)) result.next }
+    ensures view { ViewOf memory.now view.new }
+{
+    let mut count = 0;
+    let mut put = 0;
+    for row in rows {
+        let found = finding_rows::finding_row(memory, view, row.kind, row.slot);
+        let numbers = findings::cut(found, row.from);
+        // Kept: the cast, since no `From` makes a `usize` of a `u32`.
+        let many = row_reads::count(numbers) as usize;
+        let left = wanted - count;
+        if left <= many {
+            let last = put_first_lines(&mut out[put..], row.kind, row.slot, numbers, left);
+            return Lines {
+                put: put + last.put,
+                next: Some(last.cursor),
+            };
+        }
+        put += finding_lines::put_row_lines(&mut out[put..], row.kind, row.slot, numbers);
+        count += many;
+    }
+    Lines { put, next: None }
+}
+
+// Puts the lines of the findings after the cursor's three numbers, whatever they are, as many as are wanted.
 pub fn put_lines(memory: &Words, cursor: Cursor, out: &mut [u8], wanted: usize) -> Lines
     requires { (well_formed memory.now ≡ true) × (10 * wanted ≤ length out.old) }
     ensures lines { Puts out.old 0 (code_lines (map finding_code (walk (next_after (model_in memory.now) (bits_in memory.now)) wanted (cursor_place cursor)))) out.new result.put }
@@ -71,34 +101,11 @@ pub fn put_lines(memory: &Words, cursor: Cursor, out: &mut [u8], wanted: usize) 
     }
     let mut view = View::of(memory, wanted >= MANY);
     let slots = view.slots(memory);
-    let mut count = 0;
-    let mut put = 0;
     let rows = Rows {
         slots: &slots,
         kind: usize::from(cursor.kind),
         slot: usize::from(cursor.a),
         from: usize::from(cursor.b) + 1,
     };
-    for row in rows {
-        let found = finding_rows::finding_row(memory, &mut view, row.kind, row.slot);
-        let numbers = findings::cut(found, row.from);
-        // Kept: the cast, since no `From` makes a `usize` of a `u32`.
-        let many = row_reads::count(numbers) as usize;
-        if wanted - count <= many {
-            let last = put_first_lines(
-                &mut out[put..],
-                row.kind,
-                row.slot,
-                numbers,
-                wanted - count,
-            );
-            return Lines {
-                put: put + last.put,
-                next: Some(last.cursor),
-            };
-        }
-        put += finding_lines::put_row_lines(&mut out[put..], row.kind, row.slot, numbers);
-        count += many;
-    }
-    Lines { put, next: None }
+    put_rows(memory, &mut view, rows, out, wanted)
 }

@@ -1,14 +1,16 @@
 // The calls that ask: of a pair, of a container's value, of the counts.
 #![tactic(auto)]
 
-ghost use Rattle.std.specs.Prelude.{◌≡◌};
+ghost use Rattle.std.specs.Prelude.{◌≡◌, true, Ok};
 ghost use Rattle.model.specs.Calls.{ask, ask_reaches, ask_user, counts};
+ghost use Rattle.formed.specs.Registry.{well_formed};
 ghost use Rattle.steps.specs.MemoryStep.{memory_step};
 ghost use Rattle.answers.specs.Answers.{reply_answer, counted_answer};
 
 use answers::Counts;
 use block::Reason;
 use model::{ContainerSlot, PolicySlot};
+use store::Words;
 
 // Whether container a reaches container b, by the stored matrix. Both slots are tested for 10 before either for 11.
 pub fn reaches(memory: &[u64], from: ContainerSlot, to: ContainerSlot) -> Result<bool, Reason>
@@ -39,14 +41,22 @@ pub fn carries_user(memory: &[u64], slot: ContainerSlot, value: u64) -> Result<b
     Ok(entry_labels::carries(memory, at, memory[0] * 65536 + value))
 }
 
-// The standing containers, the standing policies, and the set bits of the matrix.
+// The standing containers, the standing policies, and the set bits of the matrix, of a memory that is well formed.
+pub fn counts_in(memory: &Words) -> Counts
+    requires { well_formed memory.now ≡ true }
+    ensures { (memory.now, counted_answer (Ok result)) ≡ memory_step memory.now (ask counts) }
+{
+    Counts {
+        containers: counts::count_standing::<ContainerSlot>(memory),
+        policies: counts::count_standing::<PolicySlot>(memory),
+        pairs: counts::pairs(memory),
+    }
+}
+
+// The same of any memory.
 pub fn counts(memory: &[u64]) -> Result<Counts, Reason>
     ensures { (memory.now, counted_answer result) ≡ memory_step memory.now (ask counts) }
 {
     let memory = call_tests::formed_memory(memory)?;
-    Ok(Counts {
-        containers: counts::count_standing::<ContainerSlot>(memory),
-        policies: counts::count_standing::<PolicySlot>(memory),
-        pairs: counts::pairs(memory),
-    })
+    Ok(counts_in(memory))
 }

@@ -3,11 +3,13 @@
 #![tactic(auto)]
 
 ghost use Rattle.std.specs.Prelude.{◌≡◌, false, ◌≤◌, ◌<◌, length};
+ghost use Rattle.sheets.specs.declared.State.TheVariants.{Taking};
 ghost use Rattle.sheets.specs.Left.{Does};
 ghost use Rattle.sheets.specs.Pieces.{take_one, take_step};
-ghost use Rattle.sheets.specs.Step.{start_state, finished_in, report_step, started_in, ahead, Fed};
+ghost use Rattle.sheets.specs.Step.{start_state, finished_in, report_step, started_in, ahead, Fed, Ready};
 
 pub use sheets::{State, Stepped};
+use store::Words;
 
 // No block was taken.
 pub fn start_state() -> State
@@ -28,7 +30,7 @@ pub fn finished(state: State) -> bool
 // and put together at each step.
 #[tactic(auto, unfolding(sheets::specs::Pieces::take_one, sheets::specs::Pieces::take_with))]
 fn take_one(
-    memory: &mut [u64],
+    memory: &mut Words,
     block: &mut [u8; 512],
     piece: &[u8],
     ended: bool,
@@ -36,7 +38,8 @@ fn take_one(
     n: u64,
     f: usize,
 ) -> Stepped
-    requires { (f < 512) × (128 ≤ length out.old) }
+    requires buffers { (f < 512) × (128 ≤ length out.old) }
+    requires ready { Ready (Taking n f) memory.old }
     ensures does { Does (take_one memory.old block.old piece.now ended n f) memory.new block.new out.old out.new result }
     ensures used_in_bounds { result.used ≤ length piece.now }
 {
@@ -66,7 +69,7 @@ fn take_one(
 // A piece of input after n blocks and f bytes of the next: whole blocks at once, as far as their lines find room, or one at most.
 #[tactic(auto, unfolding(sheets::specs::Pieces::take_step))]
 fn take(
-    memory: &mut [u64],
+    memory: &mut Words,
     block: &mut [u8; 512],
     piece: &[u8],
     ended: bool,
@@ -74,7 +77,8 @@ fn take(
     n: u64,
     f: usize,
 ) -> Stepped
-    requires { (f < 512) × (128 ≤ length out.old) }
+    requires buffers { (f < 512) × (128 ≤ length out.old) }
+    requires ready { Ready (Taking n f) memory.old }
     ensures does { Does (take_step memory.old block.old piece.now ended (length out.old) n f) memory.new block.new out.old out.new result }
     ensures used_in_bounds { result.used ≤ length piece.now }
 {
@@ -97,16 +101,18 @@ fn take(
 // refused.
 #[tactic(auto, unfolding(sheets::specs::Step::report_step))]
 pub fn step(
-    memory: &mut [u64],
+    memory: &mut Words,
     block: &mut [u8; 512],
     piece: &[u8],
     ended: bool,
     out: &mut [u8],
     state: State,
 ) -> Stepped
-    requires { (started_in state < 512) × (128 ≤ length out.old) }
+    requires buffers { (started_in state < 512) × (128 ≤ length out.old) }
+    requires ready { Ready state memory.old }
     ensures does { Does (report_step memory.old block.old piece.now ended (length out.old) state) memory.new block.new out.old out.new result }
     ensures used_in_bounds { (result.used ≤ length piece.now) × (result.put ≤ length out.new) × (started_in result.state < 512) }
+    ensures ready { Ready result.state memory.new }
     ensures state_bound { finished_in state ≡ false → Fed piece.now ended → ahead result.state < ahead state }
 {
     match state {

@@ -5,8 +5,9 @@ use mathlib.Core.List.{List, []}
 use Prim.Native.Nat.{ℕ, ◌+◌}
 use borrow.Author.Tests.{eq-eqb, ne_eqb}
 use Rattle.buffer.specs.Buffer.{Puts}
-use Rattle.model.specs.Calls.{Answer, open_with, change, admit}
+use Rattle.model.specs.Calls.{Answer, open_with}
 use Rattle.steps.specs.MemoryStep.{memory_step}
+use Rattle.batch_blocks.specs.Blocks.{block_placed}
 use Rattle.text.specs.Lines.{refused_by}
 use Rattle.sheets.specs.declared.State.TheVariants.{Taking, Counting}
 use Rattle.sheets.specs.declared.Told.{Told}
@@ -27,14 +28,14 @@ module _ {x : List ℕ × Answer} {m : List ℕ} {b a : Answer} (h : ◌≡◌ {
 
 module _ (m b : List ℕ) (n : ℕ) where
   abbrev pub one_of : Bool → Taken
-  one_of t = cond t (opens (memory_step m (open_with b))) (admits n (memory_step m (change (admit b))))
+  one_of t = cond t (opens (memory_step m (open_with b))) (admits n (block_placed m b))
 
   module _ {e o f : List ℕ} {r : Told} where
     pub taken-first : n ≡ 0 → Takes (opens (memory_step m (open_with b))) e o f r → Takes (taken m b n) e o f r
     unfolding taken
     taken-first z t = subst (λ u. Takes (one_of u) e o f r) (sym (eq-eqb n 0 z)) t
 
-    pub taken_next : (n ≡ 0 → ⊥) → Takes (admits n (memory_step m (change (admit b)))) e o f r → Takes (taken m b n) e o f r
+    pub taken_next : (n ≡ 0 → ⊥) → Takes (admits n (block_placed m b)) e o f r → Takes (taken m b n) e o f r
     unfolding taken
     taken_next z t = subst (λ u. Takes (one_of u) e o f r) (sym (ne_eqb n 0 z)) t
 

@@ -1,5 +1,5 @@
 -- What is still to come of the text: a piece of the input puts the first of it, and the rest is still to come.
-use mathlib.Core.Path.{◌≡◌, refl, sym, ap, ap₂, ◌∙◌, subst}
+use mathlib.Core.Path.{◌≡◌, refl, sym, ap, ◌∙◌, subst}
 use mathlib.Core.Bool.{Bool, true, false, false≢true, cond, not, ◌&&◌}
 use mathlib.Core.List.{List, [], ◌∷◌, ◌++◌, append_assoc, append-nil}
 use Prim.Native.Nat.{ℕ, suc, ◌+◌, ◌*◌, ◌-◌, ◌/◌, ◌≤◌, ◌<◌}
@@ -13,13 +13,12 @@ use Rattle.block.specs.Refusal.{Read, refused, accepted, reason_number}
 use Rattle.block.specs.Reader.{read_settings}
 use Rattle.model.specs.declared.Finding.{Finding}
 use Rattle.model.specs.Model.{Model, empty}
-use Rattle.model.specs.Calls.{Answer, open_with, change, admit}
-use Rattle.model.specs.ModelStep.{model_step}
-use Rattle.model.specs.Registry.{opened}
+use Rattle.model.specs.Calls.{Answer, open_with, change, admit, run}
+use Rattle.model.specs.ModelStep.{admitting_block, model_step}
 use Rattle.model.proofs.Next.{Leads}
 use Rattle.model.proofs.Lists.{both}
 use Rattle.store.specs.Layout.{memory_words}
-use Rattle.formed.specs.Registry.{image, well_formed}
+use Rattle.formed.specs.Registry.{well_formed}
 use Rattle.steps.specs.MemoryStep.{memory_step}
 use Rattle.steps.proofs.Outcomes.{open-refused, open_done}
 use Rattle.findings.specs.declared.Cursor.{Cursor}
@@ -28,24 +27,26 @@ use Rattle.findings.proofs.NextFinding.{next_in}
 use Rattle.sheets.specs.declared.State.{State}
 use Rattle.sheets.specs.declared.State.TheVariants.{Taking, Counting, Listing, Finished}
 use Rattle.sheets.specs.Left.{Left, left}
-use Rattle.sheets.specs.Blocks.{taken, opens, admits, admits_all, end_of}
+use Rattle.batch_blocks.specs.Blocks.{block_placed}
+use Rattle.sheets.specs.Blocks.{taken, opens, admits, admitted_lines, admits_all, end_of}
 use Rattle.sheets.specs.Pieces.{with_block, share, waits, take_with, take_one, whole_blocks, take_several, take_step}
+use Rattle.sheets.proofs.BlockLaws.{one_of}
 use Rattle.sheets.proofs.PieceLaws.{take_on, with-more, with-end, with-block, Several, whole-several, take-one, take-several}
 use Rattle.text.specs.Lines.{refused_line, refused_by, finding_lines}
 use Rattle.block.specs.Cut.{blocks_of}
 use Rattle.block.proofs.Cut.{blocks_end, blocks-count}
 use Rattle.sheets.specs.Sheet.{closing, lines_from, sheet_from, sheet_of}
 use Rattle.sheets.proofs.Blocks.{no_bytes, blocks-several, blocks-whole, blocks-short}
-use Rattle.sheets.proofs.Kept.{Keeps, keeps-after, keeps-answer, keeps-open}
+use Rattle.sheets.proofs.Kept.{Holds, holds-open, holds-placed, holds-block, holds-answer}
 
 -- after n blocks, with the bytes l of the next ones
 pub data AfterBlocks (n : ℕ) (m l t : List ℕ) : Type 0 where
   before-first : n ≡ 0 → length m ≡ memory_words → t ≡ sheet_of (blocks_of l) → AfterBlocks n m l t
-  after-some : (n ≡ 0 → ⊥) → (w : Model) → Keeps m w → t ≡ lines_from (n + 1) w (blocks_of l) → AfterBlocks n m l t
+  after-some : (n ≡ 0 → ⊥) → (w : Model) → Holds m w → t ≡ lines_from (n + 1) w (blocks_of l) → AfterBlocks n m l t
 
 pub record DueCounts (m t : List ℕ) : Type 0 where
   pub w : Model
-  pub keeps : Keeps m w
+  pub holds : Holds m w
   pub text : t ≡ closing w
 
 pub record DueFindings (m : List ℕ) (c : Cursor) (t : List ℕ) : Type 0 where
@@ -90,7 +91,7 @@ module _ (k b i : List ℕ) (whole : length k ≡ 512) where
         due = refl;
       })
   block-open m t c h w (accepted s) e q =
-      let y : Keeps (image (opened s)) (empty s) = subst (λ (x : List ℕ). Keeps x (empty s)) (ap (λ (x : List ℕ × Answer). x.0) (open_done m b h s e)) (keeps-open m b h s e) in
+      let y = subst (λ (x : List ℕ). Holds x (empty s)) (ap (λ (x : List ℕ × Answer). x.0) (open_done m b h s e)) (holds-open m b h s e) in
       subst (λ (x : List ℕ × Answer). Onward t (with_block k c (opens x)) i) (sym (open_done m b h s e)) (record {
         rest = t;
         text = refl;
@@ -98,50 +99,40 @@ module _ (k b i : List ℕ) (whole : length k ≡ 512) where
         due = record { part = omega arith; few = w; after = after-some (λ z. absurd (omega arith)) (empty s) y q };
       })
 
-  block-admit : (m t : List ℕ) (n c : ℕ) (w : Model) → Keeps m w → Few (n + 1) 0 i → t ≡ lines_from (n + 1) w (b ∷ blocks_of i)
-      → Onward t (with_block k c (admits n (memory_step m (change (admit b))))) i
+  block-admit : (m t : List ℕ) (n c : ℕ) (w : Model) → Holds m w → Few (n + 1) 0 i → t ≡ lines_from (n + 1) w (b ∷ blocks_of i)
+      → Onward t (with_block k c (admits n (block_placed m b))) i
   unfolding lines_from
   block-admit m t n c w g h q = record {
     rest = lines_from (n + 1 + 1) (model_step w (change (admit b))).0 (blocks_of i);
-    text = q ∙ ap (λ (a : Answer). refused_by (n + 1) a ++ lines_from (n + 1 + 1) (model_step w (change (admit b))).0 (blocks_of i)) (sym (keeps-answer m w g (change (admit b))));
+    text = q ∙ ap (λ (a : Answer). refused_by (n + 1) a ++ lines_from (n + 1 + 1) (model_step w (change (admit b))).0 (blocks_of i)) (sym (holds-answer m w g b));
     size = whole;
-    due = record { part = omega arith; few = h; after = after-some (λ z. absurd (omega arith)) (model_step w (change (admit b))).0 (keeps-after m w g (change (admit b))) refl };
+    due = record { part = omega arith; few = h; after = after-some (λ z. absurd (omega arith)) (model_step w (change (admit b))).0 (holds-block m w g b) refl };
   }
 
   block-taken : (m t : List ℕ) (n c : ℕ) (l : List ℕ) → AfterBlocks n m l t → Few (n + 1) 0 i → blocks_of l ≡ b ∷ blocks_of i → Onward t (with_block k c (taken m b n)) i
   unfolding taken sheet_of
   block-taken m t n c l (before-first z h q) w e =
-      subst (λ (u : Bool). Onward t (with_block k c (cond u (opens (memory_step m (open_with b))) (admits n (memory_step m (change (admit b)))))) i) (sym (eq-eqb n 0 z))
+      subst (λ (u : Bool). Onward t (with_block k c (one_of m b n u)) i) (sym (eq-eqb n 0 z))
       (block-open m t c h (subst (λ j. Few (j + 1) 0 i) z w) (read_settings b) refl (q ∙ ap sheet_of e))
   block-taken m t n c l (after-some z v g q) w e =
-      subst (λ (u : Bool). Onward t (with_block k c (cond u (opens (memory_step m (open_with b))) (admits n (memory_step m (change (admit b)))))) i) (sym (ne_eqb n 0 z))
+      subst (λ (u : Bool). Onward t (with_block k c (one_of m b n u)) i) (sym (ne_eqb n 0 z))
       (block-admit m t n c v g w (q ∙ ap (lines_from (n + 1) v) e))
 
 -- ---- several blocks
 
--- after the blocks l were admitted, where others come after them
-record AfterAll (m : List ℕ) (n : ℕ) (w : Model) (l others : List (List ℕ)) : Type 0 where
-  pub after : Model
-  pub keeps : Keeps (admits_all m n l).0 after
-  pub text : lines_from (n + 1) w (l ++ others) ≡ (admits_all m n l).1 ++ lines_from (n + length l + 1) after others
-
-admits-all : (l others : List (List ℕ)) (m : List ℕ) (n : ℕ) (w : Model) → Keeps m w → AfterAll m n w l others
-unfolding admits_all lines_from
-admits-all [] others m n w g = let i : n + 1 ≡ n + 0 + 1 = omega arith in record { after = w; keeps = g; text = ap (λ (x : ℕ). lines_from x w others) i }
-admits-all (b ∷ l) others m n w g =
-    let call = change (admit b) in
-    let r = memory_step m call in
-    let x = admits-all l others r.0 (n + 1) (model_step w call).0 (keeps-after m w g call) in
-    let t = (admits_all r.0 (n + 1) l).1 in
+-- the lines of the blocks l, where others come after them
+admitted-first : (l others : List (List ℕ)) (n : ℕ) (w : Model)
+    → lines_from (n + 1) w (l ++ others) ≡ admitted_lines w n l ++ lines_from (n + length l + 1) (run admitting_block w l).0 others
+unfolding admitted_lines lines_from model_step
+admitted-first [] others n w = let i : n + 1 ≡ n + 0 + 1 = omega arith in ap (λ (x : ℕ). lines_from x w others) i
+admitted-first (b ∷ l) others n w =
+    let r = admitting_block w b in
+    let t = admitted_lines r.0 (n + 1) l in
+    let after = (run admitting_block r.0 l).0 in
     let i : n + 1 + length l + 1 ≡ n + suc (length l) + 1 = omega arith in
-    record {
-      after = x.after;
-      keeps = x.keeps;
-      text =
-          ap₂ (λ (a : Answer) (u : List ℕ). refused_by (n + 1) a ++ u) (sym (keeps-answer m w g call)) x.text
-          ∙ sym (append_assoc (refused_by (n + 1) r.1) t (lines_from (n + 1 + length l + 1) x.after others))
-          ∙ ap (λ (y : ℕ). (refused_by (n + 1) r.1 ++ t) ++ lines_from y x.after others) i;
-    }
+    ap (λ (u : List ℕ). refused_by (n + 1) r.1 ++ u) (admitted-first l others (n + 1) r.0)
+    ∙ sym (append_assoc (refused_by (n + 1) r.1) t (lines_from (n + 1 + length l + 1) after others))
+    ∙ ap (λ (y : ℕ). (refused_by (n + 1) r.1 ++ t) ++ lines_from y after others) i
 
 -- ---- a piece
 
@@ -213,7 +204,7 @@ module _ (m k p q t : List ℕ) (ended : Bool) (n f : ℕ) (whole : length k ≡
           (record { rest = []; text = e ∙ ap sheet_of none_left ∙ sym (append-nil (refused_line 1 3)); size = piece-size; due = refl })
       finish (after-some y v h e) =
           subst (λ (u : Bool). Onward t (left m filled_block (at_end u).0 (at_end u).1 c) (drop c p ++ q)) (sym (ne_eqb n 0 y))
-          (record { rest = t; text = refl; size = piece-size; due = record { w = v; keeps = h; text = e ∙ ap (lines_from (n + 1) v) none_left } })
+          (record { rest = t; text = refl; size = piece-size; due = record { w = v; holds = h; text = e ∙ ap (lines_from (n + 1) v) none_left } })
 
   pub piece-block : waits (f + c) ended ≡ false → (f + c ≡ 0 → ⊥) → Onward t (with_block filled_block c (taken m (take (f + c) filled_block) n)) (drop c p ++ q)
   piece-block w z =
@@ -237,6 +228,7 @@ module _ (m k p q t : List ℕ) (ended : Bool) (n f : ℕ) (whole : length k ≡
       pick false e false d = subst (λ (x : Left). Onward t x (drop x.used p ++ q)) (sym (with-block m filled_block ended n (f + c) c e (eqb-false (f + c) 0 d))) (piece-block e (eqb-false (f + c) 0 d))
 
   pub piece-several : (j : ℕ) → Several (length p) n f j → Onward t (take_several m k p n j) (drop (512 * j) p ++ q)
+  unfolding admits_all
   piece-several j s = finish g.after
     where
       bytes : List ℕ
@@ -262,14 +254,18 @@ module _ (m k p q t : List ℕ) (ended : Bool) (n f : ℕ) (whole : length k ≡
       finish : AfterBlocks n m (take f k ++ (p ++ q)) t → Onward t (take_several m k p n j) others
       finish (before-first y h e) = absurd (s.later y)
       finish (after-some y v h e) =
-          let x = admits-all (blocks_of bytes) (blocks_of others) m n v h in
+          let bs = blocks_of bytes in
+          let after = (run admitting_block v bs).0 in
+          let rest = lines_from (n + j + 1) after (blocks_of others) in
           record {
-            rest = lines_from (n + j + 1) x.after (blocks_of others);
+            rest = rest;
             text =
-                e ∙ ap (λ (l : List ℕ). lines_from (n + 1) v (blocks_of l)) same ∙ ap (lines_from (n + 1) v) (blocks-several j bytes others bytes-size) ∙ x.text
-                ∙ ap (λ (i : ℕ). (admits_all m n (blocks_of bytes)).1 ++ lines_from (n + i + 1) x.after (blocks_of others)) (blocks-count j bytes bytes-size);
+                e ∙ ap (λ (l : List ℕ). lines_from (n + 1) v (blocks_of l)) same ∙ ap (lines_from (n + 1) v) (blocks-several j bytes others bytes-size)
+                ∙ admitted-first bs (blocks_of others) n v
+                ∙ ap (λ (i : ℕ). admitted_lines v n bs ++ lines_from (n + i + 1) after (blocks_of others)) (blocks-count j bytes bytes-size)
+                ∙ ap (λ (w : Model). admitted_lines w n bs ++ rest) (sym h.entries);
             size = whole;
-            due = record { part = omega arith; few = few; after = after-some (λ z. y (omega (arith, z))) x.after x.keeps refl };
+            due = record { part = omega arith; few = few; after = after-some (λ z. y (omega (arith, z))) after (holds-placed m v h bs) refl };
           }
 
   pub piece-onward : (room : ℕ) → let x = take_step m k p ended room n f in Onward t x (drop x.used p ++ q)

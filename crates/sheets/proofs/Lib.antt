@@ -7,4 +7,5 @@ pub mod Leads
 pub mod Kept
 pub mod Due
 pub mod Onward
+pub mod Ready
 pub mod Runs

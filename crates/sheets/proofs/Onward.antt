@@ -14,8 +14,9 @@ use Rattle.model.specs.Findings.{Place, start, moved, findings, finding_code}
 use Rattle.model.specs.Model.{computed_bits}
 use Rattle.model.specs.Calls.{Answer, ask, counts, list_findings, findings_answer}
 use Rattle.model.specs.ModelStep.{model_answer, model_step}
+use Rattle.model.specs.Registry.{rebuilt}
 use Rattle.model.proofs.Next.{Leads, leads-walk, findings-lead}
-use Rattle.formed.specs.Registry.{well_formed}
+use Rattle.formed.specs.Registry.{registry_in, image, well_formed}
 use Rattle.steps.specs.MemoryStep.{memory_step}
 use Rattle.steps.proofs.Outcomes.{findings-answers}
 use Rattle.findings.specs.declared.Cursor.{Cursor}
@@ -30,24 +31,26 @@ use Rattle.sheets.specs.Step.{told, report_step}
 use Rattle.text.proofs.LineLaws.{lines-append, code_lines-law, small-take}
 use Rattle.sheets.proofs.Blocks.{no_bytes}
 use Rattle.sheets.proofs.Leads.{leads-on, leads-small}
-use Rattle.sheets.proofs.Kept.{keeps-answer, keeps-formed, keeps-next}
+use Rattle.sheets.proofs.Kept.{keeps-answer, keeps-formed, keeps-next, holds-rebuilt}
 use Rattle.sheets.proofs.Due.{DueCounts, DueFindings, Due, Onward, piece-onward}
 
 -- ---- counts and findings
 
-count-onward : (m k t i : List ℕ) → length k ≡ 512 → DueCounts m t → Onward t (told m k (count_step m)) i
+count-onward : (m k t i : List ℕ) → length k ≡ 512 → DueCounts m t → let r = image (rebuilt (registry_in m)) in Onward t (told r k (count_step r)) i
 unfolding count_step closing model_step model_answer
 count-onward m k t i whole g =
     let w = g.w in
+    let r = image (rebuilt (registry_in m)) in
+    let y = holds-rebuilt m w g.holds in
     let l = findings w (computed_bits w) in
-    subst (λ (a : Answer). Onward t (told m k (counting a)) i) (sym (keeps-answer m w g.keeps (ask counts))) (record {
+    subst (λ (a : Answer). Onward t (told r k (counting a)) i) (sym (keeps-answer r w y (ask counts))) (record {
       rest = finding_lines l;
       text = g.text;
       size = whole;
       due = record {
-        formed = keeps-formed m w g.keeps;
+        formed = keeps-formed r w y;
         left = l;
-        leads = subst (λ (next : Place → Option Finding). Leads next start l) (sym (keeps-next m w g.keeps)) (findings-lead w (computed_bits w));
+        leads = subst (λ (next : Place → Option Finding). Leads next start l) (sym (keeps-next r w y)) (findings-lead w (computed_bits w));
         text = refl;
       };
     })

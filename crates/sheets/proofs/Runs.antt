@@ -12,20 +12,27 @@ use lib.Seq.{paste, take-paste, length_paste_head}
 use borrow.Author.Tests.{le-ltb, ne_eqb, eqb-true, eqb-false, not-true}
 use Rattle.model.specs.declared.Finding.{Finding}
 use Rattle.model.specs.Findings.{Place, start, findings}
-use Rattle.model.specs.Model.{computed_bits}
+use Rattle.block.specs.Entry.{Settings}
+use Rattle.block.specs.Refusal.{Read, refused, accepted}
+use Rattle.block.specs.Reader.{read_settings}
+use Rattle.model.specs.Model.{Model, computed_bits}
 use Rattle.model.specs.Calls.{Call, Answer, open_with, change, admit, ask, counts, list_findings, said}
-use Rattle.model.specs.ModelStep.{model_answer, model_step}
+use Rattle.model.specs.ModelStep.{opening, admitting_block, model_answer, model_step}
+use Rattle.model.specs.Registry.{rebuilt}
 use Rattle.model.proofs.Next.{Leads, findings-lead}
 use Rattle.model.proofs.Lists.{both}
-use Rattle.formed.specs.Registry.{well_formed}
+use Rattle.store.specs.Layout.{memory_words}
+use Rattle.formed.specs.Registry.{model_in, registry_in, image, well_formed}
 use Rattle.steps.specs.MemoryStep.{memory_step}
+use Rattle.steps.proofs.Outcomes.{open-refused, open_done}
 use Rattle.findings.specs.declared.Cursor.{Cursor}
 use Rattle.findings.specs.Steps.{cursor_place, start_cursor}
 use Rattle.findings.proofs.NextFinding.{next_in}
 use Rattle.sheets.specs.declared.State.{State}
 use Rattle.sheets.specs.declared.State.TheVariants.{Taking, Counting, Listing, Finished}
 use Rattle.sheets.specs.Left.{Left, left}
-use Rattle.sheets.specs.Blocks.{taken, admits_all, end_of}
+use Rattle.batch_blocks.specs.Blocks.{block_placed}
+use Rattle.sheets.specs.Blocks.{taken, admitted_lines, admits_all, end_of}
 use Rattle.sheets.specs.Pieces.{with_block, share, waits, take_with, take_one, whole_blocks, take_several, take_step}
 use Rattle.sheets.proofs.BlockLaws.{one_of}
 use Rattle.sheets.proofs.PieceLaws.{take_on, with-more, with-end, with-block, Several, whole-several, take-one, take-several}
@@ -37,7 +44,7 @@ use Rattle.sheets.specs.Sheet.{closing, sheet_of, sheet}
 use Rattle.sheets.specs.Step.{told, report_step, start_state, finished_in}
 use Rattle.sheets.specs.Runs.{ReportRun, ends, goes, Lent, lent_step, Follows, over, stepped, call_by, lines_by, TextIsSheet, EveryRunIsSheet, AtOnce, BlockAtOnce}
 use Rattle.sheets.proofs.StepLaws.{lines-some}
-use Rattle.sheets.proofs.Kept.{keeps-answer, keeps-formed, keeps-next}
+use Rattle.sheets.proofs.Kept.{keeps-answer, keeps-formed, keeps-next, holds-rebuilt}
 use Rattle.sheets.proofs.Due.{before-first, DueCounts, DueBlocks, Due, at_end, piece-left, piece-waits, piece-end, piece-block, piece-several, not_last}
 use Rattle.sheets.proofs.Onward.{Lines, DueLines, lines-listed, lines-due, step-onward}
 
@@ -131,10 +138,12 @@ module _ (lend : ℕ → (input : List ℕ) → Lent input) where
   unfolding report_step count_step closing model_step model_answer
   counting-ends j m k i t g =
       let w = g.w in
+      let r = image (rebuilt (registry_in m)) in
+      let y = holds-rebuilt m w g.holds in
       let l = findings w (computed_bits w) in
-      step_follows j m k Counting i t (finding_lines l) (told m k (counting (model_step w (ask counts)).1)) (ap (λ (a : Answer). told m k (counting a)) (keeps-answer m w g.keeps (ask counts))) g.text
-      (listing-ends (suc (length l)) (suc j) m k ((lend j i).p ++ (lend j i).q) start_cursor l (keeps-formed m w g.keeps)
-      (subst (λ (next : Place → Option Finding). Leads next start l) (sym (keeps-next m w g.keeps)) (findings-lead w (computed_bits w))) (omega arith))
+      step_follows j m k Counting i t (finding_lines l) (told r k (counting (model_step w (ask counts)).1)) (ap (λ (a : Answer). told r k (counting a)) (keeps-answer r w y (ask counts))) g.text
+      (listing-ends (suc (length l)) (suc j) r k ((lend j i).p ++ (lend j i).q) start_cursor l (keeps-formed r w y)
+      (subst (λ (next : Place → Option Finding). Leads next start l) (sym (keeps-next r w y)) (findings-lead w (computed_bits w))) (omega arith))
 
   end-ends : (s : State) → AtEnd s → (j : ℕ) (m k i t : List ℕ) → Due s m k i t → Follows lend j m k s i t
   end-ends (Taking n f) a j m k i t d = absurd a
@@ -232,33 +241,45 @@ every-run-is-sheet lend m k input h whole w =
 
 -- ---- at once
 
-taken-text : (m b : List ℕ) (n : ℕ) → (taken m b n).text ≡ refused_by (n + 1) (memory_step m (call_by n b)).1
-unfolding taken
-taken-text m b n = pick (eqb n 0) refl
+-- open is answered as the model answers it
+open-answer : (m b : List ℕ) (w : Model) → length m ≡ memory_words → (memory_step m (open_with b)).1 ≡ (model_step w (open_with b)).1
+unfolding model_step opening
+open-answer m b w h = pick (read_settings b) refl
   where
-    pick : (u : Bool) → eqb n 0 ≡ u → (one_of m b n u).text ≡ refused_by (n + 1) (memory_step m (cond u (open_with b) (change (admit b)))).1
-    pick true e = ap (λ (i : ℕ). refused_by (i + 1) (memory_step m (open_with b)).1) (sym (eqb-true n 0 e))
+    pick : (o : Read Settings) → read_settings b ≡ o → (memory_step m (open_with b)).1 ≡ (opening w o).1
+    pick (refused f) e = ap (λ (x : List ℕ × Answer). x.1) (open-refused m b h f e)
+    pick (accepted s) e = ap (λ (x : List ℕ × Answer). x.1) (open_done m b h s e)
+
+taken-text : (m b : List ℕ) (n : ℕ) → length m ≡ memory_words → (taken m b n).text ≡ refused_by (n + 1) (model_step (model_in m) (call_by n b)).1
+unfolding taken block_placed admitting_block model_step
+taken-text m b n h = pick (eqb n 0) refl
+  where
+    pick : (u : Bool) → eqb n 0 ≡ u → (one_of m b n u).text ≡ refused_by (n + 1) (model_step (model_in m) (cond u (open_with b) (change (admit b)))).1
+    pick true e =
+        ap (refused_by 1) (open-answer m b (model_in m) h)
+        ∙ ap (λ (i : ℕ). refused_by (i + 1) (model_step (model_in m) (open_with b)).1) (sym (eqb-true n 0 e))
     pick false e = refl
 
 -- a block after n others is what `lines_by` begins with
-one_line : (m b : List ℕ) (n : ℕ) → length b ≡ 512 → (taken m b n).text ≡ lines_by m n (blocks_of b)
+one_line : (m b : List ℕ) (n : ℕ) → length m ≡ memory_words → length b ≡ 512 → (taken m b n).text ≡ lines_by (model_in m) n (blocks_of b)
 unfolding lines_by
-one_line m b n h =
-    let r = refused_by (n + 1) (memory_step m (call_by n b)).1 in
-    let e : blocks_of b ≡ b ∷ [] = ap blocks_of (sym (append-nil b)) ∙ blocks-first b [] h ∙ ap (λ (x : List (List ℕ)). b ∷ x) blocks_end in
-    taken-text m b n ∙ sym (append-nil r) ∙ ap (lines_by m n) (sym e)
+one_line m b n h i =
+    let r = refused_by (n + 1) (model_step (model_in m) (call_by n b)).1 in
+    let e : blocks_of b ≡ b ∷ [] = ap blocks_of (sym (append-nil b)) ∙ blocks-first b [] i ∙ ap (λ (x : List (List ℕ)). b ∷ x) blocks_end in
+    taken-text m b n h ∙ sym (append-nil r) ∙ ap (lines_by (model_in m) n) (sym e)
 
 -- where it is not the first, all are admitted
-admitted-lines : (l : List (List ℕ)) (m : List ℕ) (n : ℕ) → (n ≡ 0 → ⊥) → (admits_all m n l).1 ≡ lines_by m n l
-unfolding admits_all lines_by
-admitted-lines [] m n z = refl
-admitted-lines (b ∷ l) m n z =
+admitted-lines : (l : List (List ℕ)) (w : Model) (n : ℕ) → (n ≡ 0 → ⊥) → admitted_lines w n l ≡ lines_by w n l
+unfolding admitted_lines lines_by model_step
+admitted-lines [] w n z = refl
+admitted-lines (b ∷ l) w n z =
     let c = change (admit b) in
+    let r = model_step w c in
     let e : call_by n b ≡ c = ap (λ (u : Bool). cond u (open_with b) c) (ne_eqb n 0 z) in
-    ap (λ (x : List ℕ). refused_by (n + 1) (memory_step m c).1 ++ x) (admitted-lines l (memory_step m c).0 (n + 1) (λ y. omega (arith, y)))
-    ∙ ap (λ (x : Call). refused_by (n + 1) (memory_step m x).1 ++ lines_by (memory_step m x).0 (n + 1) l) (sym e)
+    ap (λ (x : List ℕ). refused_by (n + 1) r.1 ++ x) (admitted-lines l r.0 (n + 1) (λ y. omega (arith, y)))
+    ∙ ap (λ (x : Call). refused_by (n + 1) (model_step w x).1 ++ lines_by (model_step w x).0 (n + 1) l) (sym e)
 
-module _ (m k p : List ℕ) (ended : Bool) (room n f : ℕ) (whole : length k ≡ 512) (h : f < 512) (last : n ≡ 18446744073709551615 → ⊥) (enough : 512 ≤ f + length p) where
+module _ (m k p : List ℕ) (ended : Bool) (room n f : ℕ) (words : length m ≡ memory_words) (whole : length k ≡ 512) (h : f < 512) (last : n ≡ 18446744073709551615 → ⊥) (enough : 512 ≤ f + length p) where
   one-at-once : AtOnce m k p n f (take_one m k p ended n f)
   one-at-once =
       let c = share f (length p) in
@@ -273,27 +294,28 @@ module _ (m k p : List ℕ) (ended : Bool) (room n f : ℕ) (whole : length k �
         rest = omega (arith, full);
         lent = omega arith;
         whole = omega (arith, full);
-        text = ap (λ (x : List ℕ). (taken m x n).text) b ∙ one_line m (take f k ++ take c p) n size;
+        text = ap (λ (x : List ℕ). (taken m x n).text) b ∙ one_line m (take f k ++ take c p) n words size;
       })
 
   several-at-once : (j : ℕ) → (j ≡ 0 → ⊥) → Several (length p) n f j → AtOnce m k p n f (take_several m k p n j)
+  unfolding admits_all
   several-at-once j z s = record {
     rest = omega (arith, z);
     lent = s.within;
     whole = omega (arith, s.begins);
-    text = admitted-lines (blocks_of (take (512 * j) p)) m n s.later ∙ ap (λ (i : ℕ). lines_by m n (blocks_of (take i k ++ take (512 * j) p))) (sym s.begins);
+    text = admitted-lines (blocks_of (take (512 * j) p)) (model_in m) n s.later ∙ ap (λ (i : ℕ). lines_by (model_in m) n (blocks_of (take i k ++ take (512 * j) p))) (sym s.begins);
   }
 
 pub block-at-once : BlockAtOnce
 unfolding BlockAtOnce report_step
-block-at-once m k p ended room n f whole h last enough = pick (eqb j 0) refl
+block-at-once m k p ended room n f words whole h last enough = pick (eqb j 0) refl
   where
     j : ℕ
     j = whole_blocks room (length p) n f
 
     pick : (u : Bool) → eqb j 0 ≡ u → AtOnce m k p n f (take_step m k p ended room n f)
-    pick true e = subst (AtOnce m k p n f) (sym (take-one m k p ended room n f j refl (eqb-true j 0 e))) (one-at-once m k p ended room n f whole h last enough)
+    pick true e = subst (AtOnce m k p n f) (sym (take-one m k p ended room n f j refl (eqb-true j 0 e))) (one-at-once m k p ended room n f words whole h last enough)
     pick false e =
         let z = eqb-false j 0 e in
         subst (AtOnce m k p n f) (sym (take-several m k p ended room n f j refl z))
-        (several-at-once m k p ended room n f whole h last enough j z (whole-several room (length p) n f z))
+        (several-at-once m k p ended room n f words whole h last enough j z (whole-several room (length p) n f z))

@@ -15,9 +15,10 @@ use Rattle.buffer.proofs.BufferLaws.{puts_none, puts-size}
 use Rattle.model.specs.declared.Finding.{Finding}
 use Rattle.model.specs.Findings.{Place, walk, moved, finding_code}
 use Rattle.model.specs.Calls.{Answer, refusal, open_with, ask, counts, list_findings, findings_answer, said}
+use Rattle.model.specs.Registry.{rebuilt}
 use Rattle.model.proofs.Lists.{both}
 use Rattle.store.specs.Layout.{memory_words}
-use Rattle.formed.specs.Registry.{well_formed}
+use Rattle.formed.specs.Registry.{registry_in, image, well_formed}
 use Rattle.steps.specs.MemoryStep.{memory_step}
 use Rattle.steps.proofs.Outcomes.{step-size, step-formed, findings-answers}
 use Rattle.findings.specs.declared.Cursor.{Cursor}
@@ -183,12 +184,12 @@ module _ (m k p : List ℕ) (ended : Bool) (room : ℕ) (s : State) where
       )
 
   module _ {o e : List ℕ} {t : Told} where
-    pub step_count : s ≡ Counting → Tells (count_step m) o e t → Steps m k p ended room s m k o e (as_told t)
+    pub step_count : s ≡ Counting → {m' : List ℕ} → m' ≡ image (rebuilt (registry_in m)) → Tells (count_step m') o e t → Steps m k p ended room s m' k o e (as_told t)
     unfolding report_step count_step
-    step_count q g =
-        let x = near-counted (said (memory_step m (ask counts)).1).counts in
+    step_count q {m'} i g =
+        let x = near-counted (said (memory_step m' (ask counts)).1).counts in
         let y = g.state in (
-          does-as (ap (report_step m k p ended room) q) (does-told m k g),
+          does-as (ap (report_step m k p ended room) q ∙ ap (λ (r : List ℕ). told r k (count_step r)) (sym i)) (does-told m' k g),
           (
             (omega arith, put-most g.text, subst (λ z. started_in z < 512) (sym y) x.0),
             λ _ _. subst (λ z. ahead t.state < ahead z) (sym q) (subst (λ z. ahead z < ahead Counting) (sym y) x.1),

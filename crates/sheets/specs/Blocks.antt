@@ -1,9 +1,14 @@
 -- What a block does, and what several do: to the registry's memory, to the text and to the state.
 use Rattle.std.specs.Prelude.{◌≡◌, cond, List, [], ◌∷◌, ◌++◌, ℕ, ◌+◌, eqb}
 use Rattle.std.proofs.Math.Option.{none, some}
-use Rattle.model.specs.Calls.{Answer, open_with, change, admit, said}
-use Rattle.steps.specs.MemoryStep.{memory_step}
 use Rattle.buffer.specs.Buffer.{Puts}
+use Rattle.model.specs.Model.{Model}
+use Rattle.model.specs.Calls.{Answer, open_with, said}
+use Rattle.model.specs.ModelStep.{admitting_block}
+use Rattle.model.specs.OnePass.{entries_placed}
+use Rattle.formed.specs.Registry.{model_in, registry_in, image}
+use Rattle.steps.specs.MemoryStep.{memory_step}
+use Rattle.batch_blocks.specs.Blocks.{block_placed}
 use Rattle.text.specs.Lines.{refused_line, refused_by}
 use Rattle.sheets.specs.declared.State.{State}
 use Rattle.sheets.specs.declared.State.TheVariants.{Taking, Counting, Finished}
@@ -25,20 +30,22 @@ state_after_open a = elim (said a).refused [ none ↦ Taking 1 0 | some r ↦ Fi
 abbrev pub opens : List ℕ × Answer → Taken
 opens r = takes r.0 (refused_by 1 r.1) (state_after_open r.1)
 
+-- What a block that is admitted does to the entries, and nothing more: the stored bits are set when the input has ended, all at once (Step).
 abbrev pub admits : ℕ → List ℕ × Answer → Taken
 admits n r = takes r.0 (refused_by (n + 1) r.1) (Taking (n + 1) 0)
 
 -- "The first opens, the others are admitted": the block b after n others
 unfoldable pub taken : List ℕ → List ℕ → ℕ → Taken
-taken m b n = cond (eqb n 0) (opens (memory_step m (open_with b))) (admits n (memory_step m (change (admit b))))
+taken m b n = cond (eqb n 0) (opens (memory_step m (open_with b))) (admits n (block_placed m b))
 
--- the blocks after n others, admitted one after another: the memory left, and the lines of those refused
+-- the lines of those refused of the blocks after n others, admitted one after another by the reference model
+unfoldable pub admitted_lines : Model → ℕ → List (List ℕ) → List ℕ
+admitted_lines w n [] = []
+admitted_lines w n (b ∷ l) = let r = admitting_block w b in refused_by (n + 1) r.1 ++ admitted_lines r.0 (n + 1) l
+
+-- the same blocks on a memory, again as far as the entries go: the memory left, and those lines
 unfoldable pub admits_all : List ℕ → ℕ → List (List ℕ) → List ℕ × List ℕ
-admits_all m n [] = (m, [])
-admits_all m n (b ∷ l) =
-    let r = memory_step m (change (admit b)) in
-    let t = admits_all r.0 (n + 1) l in
-    (t.0, refused_by (n + 1) r.1 ++ t.1)
+admits_all m n l = (image (entries_placed (registry_in m) l), admitted_lines (model_in m) n l)
 
 -- the end of the input, at the end of a block
 abbrev pub end_of : ℕ → List ℕ × State

@@ -1,9 +1,11 @@
 -- Every way of cutting the input into pieces, and every sequence of buffers: what is proved of the report.
 use Rattle.std.specs.Prelude.{◌≡◌, Bool, true, cond, List, [], ◌∷◌, ◌++◌, ℕ, suc, ◌+◌, ◌%◌, ◌≤◌, ◌<◌, eqb, length, take, drop}
 use Rattle.block.specs.Cut.{blocks_of}
+use Rattle.model.specs.Model.{Model}
 use Rattle.model.specs.Calls.{Call, open_with, change, admit}
+use Rattle.model.specs.ModelStep.{model_step}
 use Rattle.store.specs.Layout.{memory_words}
-use Rattle.steps.specs.MemoryStep.{memory_step}
+use Rattle.formed.specs.Registry.{model_in}
 use Rattle.text.specs.Lines.{refused_by}
 use Rattle.sheets.specs.declared.State.{State}
 use Rattle.sheets.specs.declared.State.TheVariants.{Taking, Finished}
@@ -61,10 +63,10 @@ EveryRunIsSheet =
 abbrev pub call_by : ℕ → List ℕ → Call
 call_by n b = cond (eqb n 0) (open_with b) (change (admit b))
 
--- the blocks after n others, one after another: the lines of those refused
-unfoldable pub lines_by : List ℕ → ℕ → List (List ℕ) → List ℕ
-lines_by m n [] = []
-lines_by m n (b ∷ l) = let r = memory_step m (call_by n b) in refused_by (n + 1) r.1 ++ lines_by r.0 (n + 1) l
+-- the blocks after n others, one after another, by the reference model: the lines of those refused
+unfoldable pub lines_by : Model → ℕ → List (List ℕ) → List ℕ
+lines_by w n [] = []
+lines_by w n (b ∷ l) = let r = model_step w (call_by n b) in refused_by (n + 1) r.1 ++ lines_by r.0 (n + 1) l
 
 -- Of a step after n blocks and f bytes of the next, which the buffer k has, that was lent the piece p and left x.
 pub record AtOnce (m k p : List ℕ) (n f : ℕ) (x : Left) : Type 0 where
@@ -74,10 +76,10 @@ pub record AtOnce (m k p : List ℕ) (n f : ℕ) (x : Left) : Type 0 where
   -- no byte of a block that it does not take whole
   pub whole : (f + x.used) % 512 ≡ 0
   -- and it has put the line of every block that it used
-  pub text : x.text ≡ lines_by m n (blocks_of (take f k ++ take x.used p))
+  pub text : x.text ≡ lines_by (model_in m) n (blocks_of (take f k ++ take x.used p))
 
 -- "A refused block n (from 1) gives `REFUSED n r` at once": in every step that is lent the rest of a block, or more.
 unfoldable pub BlockAtOnce : Type 0
 BlockAtOnce =
-    (m k p : List ℕ) (ended : Bool) (room n f : ℕ) → length k ≡ 512 → f < 512 → (n ≡ 18446744073709551615 → ⊥) → 512 ≤ f + length p
+    (m k p : List ℕ) (ended : Bool) (room n f : ℕ) → length m ≡ memory_words → length k ≡ 512 → f < 512 → (n ≡ 18446744073709551615 → ⊥) → 512 ≤ f + length p
     → AtOnce m k p n f (report_step m k p ended room (Taking n f))

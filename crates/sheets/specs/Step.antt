@@ -1,5 +1,7 @@
 -- What a step does, by the state, and how far it is to the end.
 use Rattle.std.specs.Prelude.{◌≡◌, Bool, true, false, List, [], ℕ, ◌+◌, ◌-◌, ◌*◌, ◌<◌, length}
+use Rattle.model.specs.Registry.{rebuilt}
+use Rattle.formed.specs.Registry.{registry_in, image, well_formed}
 use Rattle.findings.specs.declared.Cursor.{Cursor}
 use Rattle.sheets.specs.declared.State.{State}
 use Rattle.sheets.specs.declared.State.TheVariants.{Taking, Counting, Listing, Finished}
@@ -14,12 +16,20 @@ told m k x = left m k x.0 x.1 0
 -- the buffer for the text
 unfoldable pub report_step : List ℕ → List ℕ → List ℕ → Bool → ℕ → State → Left
 report_step m k p ended room (Taking n f) = take_step m k p ended room n f
-report_step m k p ended room Counting = told m k (count_step m)
+-- the input has ended: "sets every kept bit by the rules"
+report_step m k p ended room Counting = let r = image (rebuilt (registry_in m)) in told r k (count_step r)
 report_step m k p ended room (Listing c) = told m k (list_step m room c)
 report_step m k p ended room Finished = told m k ([], Finished)
 
 abbrev pub start_state : State
 start_state = Taking 0 0
+
+-- What a step asks of the memory: nothing before the first block, which opens.
+abbrev pub Ready : State → List ℕ → Type 0
+Ready (Taking n f) m = (n ≡ 0 → ⊥) → well_formed m ≡ true
+Ready Counting m = well_formed m ≡ true
+Ready (Listing c) m = well_formed m ≡ true
+Ready Finished m = Unit {0}
 
 abbrev pub finished_in : State → Bool
 finished_in (Taking n f) = false

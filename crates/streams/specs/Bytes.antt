@@ -1,5 +1,5 @@
 -- The input that is still to come, and what of a text was written.
-use Rattle.std.specs.Prelude.{Bool, true, false, ℕ, ◌+◌, ◌-◌, ◌≤◌, leb, List, [], take, slice_range, Option, None, Some}
+use Rattle.std.specs.Prelude.{Bool, true, false, ℕ, ◌+◌, ◌-◌, ◌≤◌, List, [], take, slice_range, Option, None, Some}
 use Rattle.std.specs.Io.KnownBytes.{prepend_known, Appends}
 use Rattle.streams.specs.declared.Input.{Input}
 use Rattle.streams.specs.declared.Input.TheVariants.{Unused, Ended}
@@ -27,11 +27,6 @@ Within Ended room = Unit {0}
 abbrev pub after : Input → ℕ → Input
 after (Unused at end) n = Unused (at + n) end
 after Ended n = Ended
-
--- a read filled a buffer of so many bytes, and all of them were used
-abbrev pub used_whole : Input → ℕ → Bool
-used_whole (Unused at end) room = leb room at
-used_whole Ended room = false
 
 -- what the reader has left, where that is known; nothing, where it was said that the input has ended
 abbrev pub unread : Input → Option (List ℕ) → Option (List ℕ)

@@ -7,7 +7,7 @@ ghost use Rattle.std.specs.Io.{ReadsAtMost, WritesAtMost};
 ghost use Rattle.std.specs.Io.KnownBytes.{Keeps, Appends, ReadConsumes, WriteAppends};
 ghost use Rattle.streams.specs.declared.Input.TheVariants.{Unused};
 ghost use Rattle.streams.specs.Calls.{Settles};
-ghost use Rattle.streams.specs.Bytes.{Within, ended_in, piece_of, left_in, after, used_whole, to_come, AppendsSome};
+ghost use Rattle.streams.specs.Bytes.{Within, ended_in, piece_of, left_in, after, to_come, AppendsSome};
 
 use std::io::{self, Error, ErrorKind, Read, Write};
 use std::thread;
@@ -88,16 +88,6 @@ impl Input {
         match self {
             Input::Unused(at, end) => Input::Unused(at + n, end),
             Input::Ended => Input::Ended,
-        }
-    }
-
-    // Whether a read filled a buffer of so many bytes, and all of them were used.
-    pub fn used_whole(self, room: usize) -> bool
-        ensures { result ≡ used_whole self room }
-    {
-        match self {
-            Input::Unused(at, _) => at >= room,
-            Input::Ended => false,
         }
     }
 }

@@ -1,9 +1,8 @@
 -- The list is full of the row's first findings.
-use mathlib.Core.Path.{◌≡◌, refl, sym, ap, ◌∙◌, subst}
-use mathlib.Core.List.{List, map}
+use mathlib.Core.Path.{refl, sym, ap, ◌∙◌, subst}
 use native.Mathlib.Omega.{arith}
-use Prim.Native.Nat.{◌<◌, ◌-◌}
-use lib.ListN.{length, take, get_or}
+use Prim.Native.Nat.{◌-◌}
+use lib.ListN.{length, get_or}
 use Rattle.std.specs.List.{All}
 use Rattle.bitrow.specs.Bit.{bit_at}
 use Rattle.model.specs.Kinds.{kind_number}
@@ -11,7 +10,7 @@ use Rattle.text.specs.Lines.{code_lines}
 use Rattle.buffer.proofs.BufferLaws.{puts-as, puts-size}
 use Rattle.findings.specs.Steps.{place_at}
 use Rattle.finding_lines.specs.Codes.{ShortCode}
-use Rattle.listing_lines.proofs.FirstLines.{first-put, first-codes, first-short, short-small, kind-below}
+use Rattle.listing_lines.proofs.FirstLines.{first-put, first-short, short-small, kind-below}
 use Rattle.listing_lines.proofs.put_listed.Goals as goal
 
 pub put_findings-requires : goal.put_findings-requires

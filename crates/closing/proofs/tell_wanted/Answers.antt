@@ -1,7 +1,7 @@
 -- What was put and where the listing goes on is the answer.
 use Rattle.findings.specs.Steps.{cursor_place}
 use Rattle.closing.proofs.ListingLaws.{tells-last, tells-on}
-use Rattle.closing.proofs.tell_findings_in.Goals as goal
+use Rattle.closing.proofs.tell_wanted.Goals as goal
 
 pub returns-in-Some : goal.returns-in-Some
 returns-in-Some c =
