@@ -30,7 +30,7 @@ state_after_open a = elim (said a).refused [ none ↦ Taking 1 0 | some r ↦ Fi
 abbrev pub opens : List ℕ × Answer → Taken
 opens r = takes r.0 (refused_by 1 r.1) (state_after_open r.1)
 
--- What a block that is admitted does to the entries, and nothing more: the stored bits are set when the input has ended, all at once (Step).
+-- Of a block that is admitted the entry alone comes to stand: the stored bits are set when the input has ended, all at once (Step).
 abbrev pub admits : ℕ → List ℕ × Answer → Taken
 admits n r = takes r.0 (refused_by (n + 1) r.1) (Taking (n + 1) 0)
 
@@ -43,7 +43,7 @@ unfoldable pub admitted_lines : Model → ℕ → List (List ℕ) → List ℕ
 admitted_lines w n [] = []
 admitted_lines w n (b ∷ l) = let r = admitting_block w b in refused_by (n + 1) r.1 ++ admitted_lines r.0 (n + 1) l
 
--- the same blocks on a memory, again as far as the entries go: the memory left, and those lines
+-- the same blocks on a memory: what is left of it, with their entries and every stored bit as it was; and those lines
 unfoldable pub admits_all : List ℕ → ℕ → List (List ℕ) → List ℕ × List ℕ
 admits_all m n l = (image (entries_placed (registry_in m) l), admitted_lines (model_in m) n l)
 

@@ -24,7 +24,7 @@ report_step m k p ended room Finished = told m k ([], Finished)
 abbrev pub start_state : State
 start_state = Taking 0 0
 
--- What a step asks of the memory: nothing before the first block, which opens.
+-- What a step asks of the memory: before the first block, which opens, nothing; then that it is well formed.
 abbrev pub Ready : State → List ℕ → Type 0
 Ready (Taking n f) m = (n ≡ 0 → ⊥) → well_formed m ≡ true
 Ready Counting m = well_formed m ≡ true
