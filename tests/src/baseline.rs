@@ -254,7 +254,9 @@ fn by_rules(s: &Sets, out: &Row, back: &Row, chosen: Row, a: usize) -> Row {
             taken = either(taken, s.selected[q]);
         }
     }
-    either(except(first, chosen), both(first, taken))
+    let mut row = either(except(first, chosen), both(first, taken));
+    put(&mut row, a);
+    row
 }
 
 /// Container c's row and column of the matrix, and its bit in each policy's two sets.
@@ -459,7 +461,11 @@ fn finding_row(m: &[u64], cs: &Row, ps: &Row, kind: usize, a: usize) -> Row {
     let mut row = EMPTY;
     match kind {
         1 => only(0, within(*cs, column(m, a))),
-        2 => only(0, is_empty(&both(*cs, column(m, a)))),
+        2 => {
+            let mut others = *cs;
+            others[a / 64] &= !(1 << (a % 64));
+            only(0, !is_empty(&others) && is_empty(&both(others, column(m, a))))
+        }
         3 => {
             let mut others = both(*cs, row_at(m, a));
             others[a / 64] &= !(1 << (a % 64));

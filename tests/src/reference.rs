@@ -176,8 +176,10 @@ fn lets(r: &Register, d: Direction, c: &[Label], other: &[Label]) -> bool {
     selecting.peek().is_none() || selecting.any(|p| matches(&p.allow, other))
 }
 
+/// Document 02, Note 3: a container reaches itself, whatever the policies.
 fn reaches(r: &Register, a: usize, b: usize) -> bool {
     match (&r.containers[a], &r.containers[b]) {
+        (Some(_), Some(_)) if a == b => true,
         (Some(x), Some(y)) => lets(r, Direction::Egress, x, y) && lets(r, Direction::Ingress, y, x),
         _ => false,
     }
@@ -293,7 +295,7 @@ impl Register {
             if cs.iter().all(|c| reach(*c, *a)) {
                 add(1, *a, 0);
             }
-            if !cs.iter().any(|c| reach(*c, *a)) {
+            if cs.len() > 1 && !cs.iter().any(|c| c != a && reach(*c, *a)) {
                 add(2, *a, 0);
             }
             for b in &cs {

@@ -60,7 +60,7 @@ pub fn printed() -> Vec<u8> {
 /// Where they are stored, and the sheet.
 pub const PRINTED_BLOCKS: &str = concat!(env!("CARGO_MANIFEST_DIR"), "/../examples/printed-sheet.blocks");
 pub const PRINTED: &str = "\
-CONTAINERS 4 POLICIES 3 PAIRS 11
+CONTAINERS 4 POLICIES 3 PAIRS 12
 3 0 2
 3 0 3
 3 2 0

@@ -273,7 +273,7 @@ fn more_findings_than_a_list_holds() {
     let container = |i: u16| bytes::container(if i == 40 { &[(2, 1)] } else { &[] });
     let m = full(&bytes::settings(1, 0, 0), container, |_| bytes::policy(INGRESS, &[(2, 1)], &[(2, 1)]));
     let all = codes(&m);
-    assert_eq!(all.len(), 73_408);
+    assert_eq!(all.len(), 73_409);
     let mut r = Random::new(91_000);
     assert_eq!(walk(&m, all.len()), all);
     assert!(walk_by_lists(&mut r, &m, all.len()) == all);

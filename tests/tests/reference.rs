@@ -26,7 +26,7 @@ fn the_printed_example() {
     let mut calls = vec![Call::Open(blocks.next().unwrap())];
     calls.extend(blocks.map(Call::Admit).chain([Call::Counts, Call::Audit]));
     let (m, answers) = run(&calls);
-    assert_eq!(answers, [0, 0, 1, 2, 3, 0, 1, 2, counted(4, 3, 11), 1]);
+    assert_eq!(answers, [0, 0, 1, 2, 3, 0, 1, 2, counted(4, 3, 12), 1]);
     let written = step(&m, &Call::Write(vec![7; 4100]));
     assert!(written.answer == 4096 && written.lent.bytes == [printed(), vec![7; 4]].concat());
     let found = Register::decode(&m).unwrap().findings();

@@ -3,7 +3,6 @@ use mathlib.Core.Path.{◌≡◌, refl, sym, ap, ap₂, ◌∙◌, fun_ext}
 use mathlib.Core.Bool.{Bool, true, false, not, ◌&&◌, and-true, and-false}
 use mathlib.Core.List.{List}
 use Prim.Native.Nat.{ℕ}
-use native.Mathlib.Decide.{ℕ_discrete}
 use lib.Dec.{eqb}
 use borrow.Author.Tests.{eq-eqb, ne_eqb}
 use Rattle.bitrow.specs.Bit.{bit_at}
@@ -11,6 +10,7 @@ use Rattle.bitrow.specs.Set.{nothing, remove, meet, less}
 use Rattle.model.specs.Model.{container_slots}
 use Rattle.model.specs.Findings.{user_cross, system_isolation}
 use Rattle.model.specs.Findings as model
+use Rattle.model.proofs.Lists.{eqb-sym}
 use Rattle.store.specs.Layout.{row_at}
 use Rattle.formed.specs.Registry.{model_in, bits_in, EntriesFormed}
 use Rattle.entries.proofs.Trials.{container-below}
@@ -24,13 +24,6 @@ use Rattle.container_findings.proofs.KindRows.{at-3, at-4}
 user-is : (m : List ℕ) (word b : ℕ) → eqb (user_word m b) word ≡ with_user m word b
 unfolding with_user
 user-is m word b = refl
-
-eqb-sym : (a b : ℕ) → eqb a b ≡ eqb b a
-eqb-sym a b = go (ℕ_discrete a b)
-  where
-    go : Dec (a ≡ b) → eqb a b ≡ eqb b a
-    go (yes e) = eq-eqb a b e ∙ sym (eq-eqb b a (sym e))
-    go (no n) = ne_eqb a b n ∙ sym (ne_eqb b a (λ e. n (sym e)))
 
 module _ (m : List ℕ) (a : ℕ) (h : containers_stand m a ≡ true) where
   -- a's row, read

@@ -1,9 +1,8 @@
 -- The findings of a kind at a, as the set of all b, and what those over containers are worked out from.
-use Rattle.std.specs.Prelude.{◌≡◌, Bool, true, ◌&&◌, List, ℕ, ◌<◌, eqb}
-use Rattle.std.specs.Bool.{beq}
+use Rattle.std.specs.Prelude.{◌≡◌, Bool, true, ◌&&◌, List, ℕ, ◌<◌, eqb, ltb}
 use Rattle.bitrow.specs.Bit.{bit_at}
+use Rattle.bitrow.specs.Set.{size}
 use Rattle.model.specs.Table.{stands}
-use Rattle.model.specs.Model.{Bits}
 use Rattle.model.specs.Findings.{finding, shown}
 use Rattle.store.specs.Layout.{word_at, container_start}
 use Rattle.formed.specs.Words.{part_in}
@@ -24,9 +23,9 @@ policies_stand m = stands (model_in m).policies
 unfoldable pub zero_if : Bool → ℕ → Bool
 zero_if t b = t && eqb b 0
 
--- the containers whose bit to a is as wanted
-unfoldable pub column_as : Bits → ℕ → Bool → ℕ → Bool
-column_as s a wanted c = beq (s.matrix c a) wanted
+-- what is in t, if at least two are in s
+unfoldable pub if_two : (ℕ → Bool) → (ℕ → Bool) → ℕ → Bool
+if_two s t a = ltb 1 (size s 256) && t a
 
 -- the containers whose word under the user key is this one; it is 0 where they have none
 unfoldable pub with_user : List ℕ → ℕ → ℕ → Bool

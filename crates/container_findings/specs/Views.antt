@@ -5,6 +5,7 @@ use Rattle.bitrow.specs.Set.{meet}
 use Rattle.model.specs.Model.{container_slots}
 use Rattle.store.specs.Layout.{word_at}
 use Rattle.entries.specs.Entries.{user_word}
+use Rattle.container_findings.specs.declared.Left.{Left}
 use Rattle.container_findings.specs.declared.Users.{Users}
 use Rattle.container_findings.specs.declared.ContainerView.{ContainerView}
 use Rattle.container_findings.specs.Rows.{shown_at, containers_stand, with_user}
@@ -31,11 +32,15 @@ pub record UsersOf (m : List ℕ) (users : Users) : Type 0 where
 unfoldable pub told_of : List ℕ → ℕ → ℕ → Bool
 told_of m k a = shown_at m k a 0
 
--- the containers that stand, some users, and if they are told those that every container reaches and those that none reaches
+-- those that every container reaches and those that are isolated
+pub record Told (m : List ℕ) (left : Left) : Type 0 where
+  pub by_all : bit_at left.by_all ≡ told_of m 1
+  pub by_none : bit_at left.by_none ≡ told_of m 2
+
+-- the containers that stand, some users, and if they are told those that every container reaches and those that are isolated
 pub record ContainersSeen (m : List ℕ) (view : ContainerView) : Type 0 where
   pub standing : bit_at view.standing ≡ containers_stand m
-  pub by_all : view.told ≡ true → bit_at view.by_all ≡ told_of m 1
-  pub by_none : view.told ≡ true → bit_at view.by_none ≡ told_of m 2
+  pub told : view.told ≡ true → Told m (record { by_all = view.by_all; by_none = view.by_none })
   pub users : UsersOf m view.users
 
 -- a row that has every slot at which there is a finding of kind k

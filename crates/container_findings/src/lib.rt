@@ -6,10 +6,12 @@ ghost use Rattle.bitrow.specs.Bit.{bit_at};
 ghost use Rattle.bitrow.specs.Set.{meet, under};
 ghost use Rattle.model.specs.Kinds.{kind_number};
 ghost use Rattle.formed.specs.Registry.{EntriesFormed};
-ghost use Rattle.container_findings.specs.Rows.{shown_at, containers_stand, zero_if, AtContainer};
-ghost use Rattle.container_findings.specs.Views.{of_user, OwnWords, places_of, UsersOf, ContainersSeen, SlotsOfKind};
+ghost use Rattle.container_findings.specs.Rows.{shown_at, containers_stand, zero_if, if_two, AtContainer};
+ghost use Rattle.container_findings.specs.Passes.{word_set, Passed};
+ghost use Rattle.container_findings.specs.Views.{of_user, OwnWords, places_of, UsersOf, Told, ContainersSeen, SlotsOfKind};
 
 use model::Kind;
+use row_members::Bits;
 use store::Words;
 
 // The users, as far as they were asked for. If `told` is set, `own` has each container's word under the user key, 0 where it has none. At each
@@ -26,7 +28,7 @@ pub struct Users {
 }
 
 // What the findings over containers are worked out from, made once for a listing: the standing containers, the users met so far, and if `told` is
-// set those that every container reaches and those that none reaches.
+// set those that every container reaches and those that are isolated.
 // Of its 4.6 KiB none is copied: it is made where it is kept, and lent.
 // Kept: a flag: before it is set the two rows are empty, and say nothing.
 #[derive(Drop)]
@@ -117,24 +119,90 @@ impl Users {
     }
 }
 
+// What the rows of some containers leave of all that stand: those that each of them reaches, and those that none of them reaches but itself.
+#[derive(Clone, Copy)]
+struct Left {
+    by_all: [u64; 4],
+    by_none: [u64; 4],
+}
+
+// What the rows of 64 more leave, of which `word` has those that stand: word n of the standing containers. Compiled into its caller, where n
+// is known, and so the word of a row that has its container's own bit.
+#[inline(always)]
+fn pass(memory: &Words, word: u64, n: usize, left: Left) -> Left
+    requires { n < 4 }
+    ensures { Passed memory.now (word_set n word) left result }
+{
+    let mut by_all = left.by_all;
+    let mut by_none = left.by_none;
+    for k in Bits(word) {
+        let c = 64 * n + usize::from(k);
+        let row = access::row_at(memory, c);
+        let all = row_sets::both(by_all, row);
+        by_all = all;
+        let others = row_sets::without(row, c);
+        let none = row_sets::except(by_none, others);
+        by_none = none;
+    }
+    Left { by_all, by_none }
+}
+
+// A row, if at least two containers stand.
+fn if_two_stand(standing: [u64; 4], row: [u64; 4]) -> [u64; 4]
+    ensures { bit_at result ≡ if_two (bit_at standing) (bit_at row) }
+{
+    if row_reads::count(standing) < 2 {
+        return row_sets::none();
+    }
+    row
+}
+
+// Those that every container reaches and those that are isolated. Compiled into its callers: where a call stands before a view is made, the
+// compiler clears the whole of it first.
+#[inline(always)]
+fn left_of(memory: &Words, standing: [u64; 4]) -> Left
+    requires { bit_at standing ≡ containers_stand memory.now }
+    ensures { Told memory.now result }
+{
+    let all = Left {
+        by_all: standing,
+        by_none: standing,
+    };
+    let one = pass(memory, standing[0], 0, all);
+    let two = pass(memory, standing[1], 1, one);
+    let three = pass(memory, standing[2], 2, two);
+    let four = pass(memory, standing[3], 3, three);
+    let by_all = four.by_all;
+    let by_none = if_two_stand(standing, four.by_none);
+    Left { by_all, by_none }
+}
+
 impl ContainerView {
-    // Nothing is told yet but which containers stand.
-    pub fn of(standing: [u64; 4]) -> ContainerView
-        ensures { (m : List ℕ) → bit_at standing ≡ containers_stand m → ContainersSeen m result }
+    // Of the containers that stand. What is told of all of them is told where many findings are to be asked for.
+    pub fn of(memory: &Words, standing: [u64; 4], many: bool) -> ContainerView
+        requires { bit_at standing ≡ containers_stand memory.now }
+        ensures { ContainersSeen memory.now result }
     {
+        let mut by_all = [0; 4];
+        let mut by_none = [0; 4];
+        if many {
+            let left = left_of(memory, standing);
+            by_all = left.by_all;
+            by_none = left.by_none;
+        }
         ContainerView {
             standing,
-            told: false,
-            by_all: [0; 4],
-            by_none: [0; 4],
+            told: many,
+            by_all,
+            by_none,
             users: Users::none(),
         }
     }
 
-    // Those that every container reaches and those that none reaches are told, once: in one pass over the rows of the standing containers,
-    // by those that each of them has, and those that any has.
-    pub fn tell(&mut self, memory: &Words)
-        requires { EntriesFormed memory.now × ContainersSeen memory.now self.old }
+    // Those that every container reaches and those that are isolated are told, once.
+    #[inline(always)]
+    fn tell(&mut self, memory: &Words)
+        requires { ContainersSeen memory.now self.old }
         ensures told { self.new.told ≡ true }
         ensures view { ContainersSeen memory.now self.new }
         ensures kept { self.new.standing ≡ self.old.standing }
@@ -142,20 +210,9 @@ impl ContainerView {
         if self.told {
             return;
         }
-        let standing = self.standing;
-        let mut by_all = standing;
-        let mut by_any = row_sets::none();
-        for c in 0..store::CONTAINER_SLOTS {
-            if !row_sets::has(standing, c) {
-                continue;
-            }
-            let row = access::row_at(memory, c);
-            let all = row_sets::both(by_all, row);
-            by_all = all;
-            let any = row_sets::either(by_any, row);
-            by_any = any;
-        }
-        let by_none = row_sets::except(standing, by_any);
+        let left = left_of(memory, self.standing);
+        let by_all = left.by_all;
+        let by_none = left.by_none;
         self.by_all = by_all;
         self.by_none = by_none;
         self.told = true;

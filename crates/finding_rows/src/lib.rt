@@ -29,13 +29,10 @@ impl View {
         requires { EntriesFormed memory.now }
         ensures { ViewOf memory.now result }
     {
-        let mut containers = ContainerView::of(stored::standing::<model::ContainerSlot>(memory));
-        if many {
-            containers.tell(memory);
-        }
+        let containers = stored::standing::<model::ContainerSlot>(memory);
         let policies = stored::standing::<model::PolicySlot>(memory);
         View {
-            containers,
+            containers: ContainerView::of(memory, containers, many),
             policies: PolicyView::of(memory, policies, many),
         }
     }

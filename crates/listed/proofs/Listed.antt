@@ -286,6 +286,7 @@ knowns =
     ∷ writing 5000
     ∷ elsewhere_at 5762 refl (ask (write 5000))
     ∷ call (ask (ask_reaches 1 0))
+    ∷ call (ask (ask_reaches 1 1))
     ∷ call (ask (ask_reaches 2 1))
     ∷ call (ask (ask_reaches 4 256))
     ∷ call (ask (ask_reaches 3 4))
@@ -342,7 +343,7 @@ computes : on_known (empty printed_settings) knowns ≡ seen_of listed
 unfolding listed knowns container_of policy_of reads opens_with elsewhere_at fresh three_known block_for
     on_known known_step flatten
     Batch.batch_answer Batch.tallied_one ModelStep.admitting_batch Listed.short_block
-    Rules.reaches Rules.permits Rules.some_allows Rules.some_selects Rules.same_direction Rules.allows Rules.selects Rules.matches Rules.carries Rules.same_label
+    Rules.reaches Rules.both_permit Rules.permits Rules.some_allows Rules.some_selects Rules.same_direction Rules.allows Rules.selects Rules.matches Rules.carries Rules.same_label
     Model.empty Model.with_container Model.with_policy Model.computed_bits Model.matrix_bit Model.selected_bit Model.allowed_bit
     ModelStep.model_step ModelStep.opening ModelStep.placing ModelStep.placing_policy ModelStep.admitting ModelStep.removing ModelStep.removing_policy
     ModelStep.asking ModelStep.asking_user ModelStep.model_answer

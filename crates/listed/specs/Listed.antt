@@ -140,8 +140,8 @@ listed =
     ∷ gives (policy_of ingress (label 3 2 ∷ []) (label 3 1 ∷ [])) (policy_at 0)
     ∷ gives (policy_of ingress (label 1 11 ∷ label 3 2 ∷ []) (label 1 11 ∷ label 3 1 ∷ [])) (policy_at 1)
     ∷ gives (policy_of egress (label 3 2 ∷ []) (label 1 13 ∷ [])) (policy_at 2)
-    -- the printed report: "CONTAINERS 4 POLICIES 3 PAIRS 11", its first finding, its shadow, its end
-    ∷ gives (ask counts) (counted 4 3 11)
+    -- the printed report: "CONTAINERS 4 POLICIES 3 PAIRS 12", its first finding, its shadow, its end
+    ∷ gives (ask counts) (counted 4 3 12)
     ∷ gives (ask (next_finding start)) (meets 3 0 2)
     ∷ gives (ask (next_finding (cursor 4 3 1))) (meets 5 1 0)
     ∷ gives (ask (next_finding (cursor 7 2 1))) no_finding
@@ -166,6 +166,8 @@ listed =
     ∷ []))
     ∷ gives_other 5762 refl (ask (write 5000))
     ∷ gives (ask (ask_reaches 1 0)) (says false)
+    -- document 02, Note 3: itself it reaches
+    ∷ gives (ask (ask_reaches 1 1)) (says true)
     ∷ gives (ask (ask_reaches 2 1)) (says true)
     -- 10 of either comes before 11
     ∷ gives (ask (ask_reaches 4 256)) (refusal 10)
@@ -204,17 +206,17 @@ listed =
     ∷ []))
     -- a freed slot is used again
     ∷ gives (container_of []) (container_at 0)
-    ∷ gives (ask counts) (counted 4 2 13)
+    ∷ gives (ask counts) (counted 4 2 14)
     ∷ gives (ask (next_finding (cursor 5 65535 65535))) (meets 7 1 1)
     ∷ gives (change rebuild) done
-    ∷ gives (ask counts) (counted 4 2 13)
+    ∷ gives (ask counts) (counted 4 2 14)
     -- batches: of no whole block, with too short a list, of none, of three blocks, one of them refused
     ∷ gives (batch_of (short_block ∷ []) 0 (tally_of 0 0)) (refusal 14)
     ∷ gives (batch_of three_blocks 5 (tally_of 0 0)) (refusal 13)
     ∷ gives (batch_of [] 0 (tally_of 3 4)) (batch_put [] (tally_of 3 4))
     ∷ gives_other 5762 refl (batch_of three_blocks 6 (tally_of 0 0))
     ∷ gives (batch_of three_blocks 7 (tally_of 18446744073709551614 8)) (batch_put ((0, 4) ∷ (4, 0) ∷ (0, 2) ∷ []) (tally_of 18446744073709551615 9))
-    ∷ gives (ask counts) (counted 5 3 17)
+    ∷ gives (ask counts) (counted 5 3 19)
     ∷ gives (ask audit) (says true)
     -- open again; then all policies that the table takes, and one more
     ∷ gives (open_with (settings_block other_settings)) done

@@ -3,7 +3,7 @@ use mathlib.Core.Path.{◌≡◌, refl, ap, ◌∙◌}
 use mathlib.Core.Bool.{Bool, true, false, cond}
 use Prim.Native.Nat.{ℕ, ◌<◌}
 use Rattle.bitrow.specs.Bit.{bit_at}
-use Rattle.bitrow.specs.Set.{nothing, meet, join, less}
+use Rattle.bitrow.specs.Set.{nothing, meet, join, less, insert}
 use Rattle.bitrow.proofs.Sets.{point}
 use Rattle.block.specs.declared.Direction.TheVariants.{Ingress as ingress, Egress as egress}
 use Rattle.model.specs.Model.{container_slots, policy_slots, Model, matrix_bit}
@@ -33,9 +33,9 @@ module _ {m : Model} {some : ℕ → Bool} {g : Gathered} (x : Gathers m some g)
 
   -- of one of some
   pub gathered-row : {there : ℕ → Bool} → a < container_slots → some a ≡ true → bit_at g.standing a ≡ true → there ≡ meet_if (bit_at g.bound a) (bit_at g.standing) (bits g.outs a)
-      → join (less there (bit_at g.chosen)) (meet there (bits g.backs a)) ≡ matrix_bit m a
+      → insert a (join (less there (bit_at g.chosen)) (meet there (bits g.backs a))) ≡ matrix_bit m a
   gathered-row {there} l k f e =
-      lets_by there back x.chosen ∙ ap (λ t. meet t (sets_let_by policy_slots (direction_set m ingress) (bits g.sets.selected) (bits g.sets.allowed) a)) (e ∙ go (bit_at g.bound a) refl)
+      ap (insert a) (lets_by there back x.chosen ∙ ap (λ t. meet t (sets_let_by policy_slots (direction_set m ingress) (bits g.sets.selected) (bits g.sets.allowed) a)) (e ∙ go (bit_at g.bound a) refl))
       ∙ line-meet policy_slots (bit_at g.standing) _ _ _ _ a f ∙ row-law m x.slots x.sets x.standing refl refl a
     where
       out : Picks policy_slots (direction_set m egress) (bits g.sets.selected) (bits g.sets.allowed) a (bit_at g.bound a) (bits g.outs a)

@@ -80,23 +80,26 @@ fn outward_from(a: usize, gathered: &Gathered) -> [u64; 4]
     requires { a < 256 }
     ensures { bit_at result ≡ meet_if (bit_at gathered.now.bound a) (bit_at gathered.now.standing) (bits gathered.now.outs a) }
 {
-    if row_sets::has(gathered.bound, a) {
+    if bitrow::bit_of(gathered.bound[a / 64], a) {
         return row_sets::both(gathered.standing, gathered.outs[a]);
     }
     gathered.standing
 }
 
-// Row a of the matrix by the rules, where a is one of the containers that were gathered for, or a free slot.
+// Row a of the matrix by the rules, a itself in it, where a is one of the containers that were gathered for, or a free slot.
+// Compiled into its callers, as it is for each of many rows.
+#[inline(always)]
 pub fn row_from(a: usize, gathered: &Gathered) -> [u64; 4]
     requires { a < 256 }
     ensures { RowFrom gathered.now a result }
 {
-    if !row_sets::has(gathered.standing, a) {
+    if !bitrow::bit_of(gathered.standing[a / 64], a) {
         return row_sets::none();
     }
     let there = outward_from(a, gathered);
-    row_sets::either(
+    let others = row_sets::either(
         row_sets::except(there, gathered.chosen),
         row_sets::both(there, gathered.backs[a]),
-    )
+    );
+    row_sets::with(others, a)
 }

@@ -1,5 +1,5 @@
 -- A book of containers and policies of any sort: its bits by the rules, its changes and what each touches.
-use mathlib.Core.Path.{◌≡◌}
+use mathlib.Core.Path.{◌≡◌, ap}
 use mathlib.Core.Bool.{Bool, false, ◌||◌}
 use mathlib.Core.Option.{Option}
 use Prim.Native.Nat.{ℕ}
@@ -28,6 +28,14 @@ module _ {P : Type 0} where
   pub record LawfulRules (R : Rules P) : Type 0 where
     pub untouched : (ps : Table P) (q : ℕ) (p : P) (x : Option P) → IsOrFree p (at ps q) → IsOrFree p x
         → (a b : ℕ) (u v : Container) → R.touches p u v ≡ false → R.reaches (set ps q x) a b u v ≡ R.reaches ps a b u v
+
+  -- document 02, Note 3, over any rules: whatever the policies, a container reaches itself
+  unfoldable pub reflexive : Rules P → Rules P
+  reflexive R = record { selects = R.selects; allows = R.allows; reaches = λ ps a b u v. eqb a b || R.reaches ps a b u v; touches = R.touches }
+
+  pub reflexive-lawful : (R : Rules P) → LawfulRules R → LawfulRules (reflexive R)
+  unfolding reflexive
+  reflexive-lawful R law = record { untouched = λ ps q p x old new a b u v e. ap (λ t. eqb a b || t) (law.untouched ps q p x old new a b u v e) }
 
 -- ---- the entries: any type with two tables, which says the rules
 

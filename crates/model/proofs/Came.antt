@@ -18,8 +18,8 @@ use Rattle.model.specs.Registry.{touches}
 use Rattle.model.specs.Settled.{selects_as, some_came_selects, touched_pair, touched_set}
 use Rattle.model.specs.OnePass.{containers_came, policies_came}
 use Rattle.model.proofs.Lists.{elem, elem-standing}
-use Rattle.model.proofs.Book.{BitPlace, matrix, selected, allowed, EntryChange, container_becomes, policy_becomes, touched_by}
-use Rattle.model.proofs.WrittenRules.{written_rules, model_book}
+use Rattle.model.proofs.Book.{reflexive, BitPlace, matrix, selected, allowed, EntryChange, container_becomes, policy_becomes, touched_by}
+use Rattle.model.proofs.WrittenRules.{both_directions, written_rules, model_book}
 use Rattle.model.proofs.Admission.{slot_answer}
 
 -- one slot more
@@ -79,7 +79,7 @@ container-more m cs qs c x (allowed q b) = left_comm (qs q) (eqb b c) (cs b)
 
 policy-more : (m : Model) (cs qs : ℕ → Bool) (q : ℕ) (p : Policy) (x : Option Policy) → at m.policies q ≡ some p → (i : BitPlace)
     → touched_at m cs (more q qs) i ≡ (touched_by model_book m (policy_becomes q p x) i || touched_at m cs qs i)
-unfolding touched_pair touched_set touched_by model_book written_rules
+unfolding touched_pair touched_set touched_by model_book written_rules reflexive both_directions
 policy-more m cs qs q p x h (matrix a b) =
     let u = at m.containers a in
     let v = at m.containers b in

@@ -7,6 +7,7 @@ use mathlib.Core.Option.{Option, none, some}
 use Prim.Native.Nat.{ℕ, zero, suc, ◌+◌, ◌-◌, ◌≤◌, ◌<◌}
 use native.Mathlib.Nat.{not-suc-le-zero, le_of_suc-le-suc, sub-zero, suc-sub-suc}
 use native.Mathlib.Omega.{arith}
+use lib.Dec.{eqb}
 use lib.ListN.{length, get_or, set, replicate, length-append}
 use lib.Seq.{append_snoc}
 use Rattle.block.specs.declared.Direction.{Direction}
@@ -14,12 +15,12 @@ use Rattle.block.specs.declared.Direction.TheVariants.{Egress as egress, Ingress
 use Rattle.block.specs.Entry.{Container, Policy, container, policy}
 use Rattle.block.specs.Written.{block_of, settings_block}
 use Rattle.model.specs.Table.{Table, any, on, at, standing, standing_from, next, lowest_free, up_from}
-use Rattle.model.specs.Rules.{same_direction, selects, allows, some_selects, some_allows, permits, reaches}
+use Rattle.model.specs.Rules.{same_direction, selects, allows, some_selects, some_allows, permits, both_permit, reaches}
 use Rattle.model.specs.Model.{Model, matrix_bit, selected_bit, allowed_bit, computed_bits}
 use Rattle.model.specs.Findings.{containers_of, policies_of}
 use Rattle.model.specs.Calls.{Call, Answer, run}
 use Rattle.model.specs.File.{standing_entries, file_entries, file_of, closed, closed_up}
-use Rattle.model.proofs.Lists.{All, standing-few}
+use Rattle.model.proofs.Lists.{All, up-same, standing-few, standing-up}
 
 module _ {A : Type 0} where
   -- as many entries as standing slots
@@ -102,9 +103,14 @@ closed-permits d ps x y =
     (closed-any (λ p. same_direction d p.direction && selects p x) ps)
     (closed-any (λ p. same_direction d p.direction && (selects p x && allows p y)) ps)
 
-closed-reaches : (ps : Table Policy) (x y : Container) → reaches (closed ps) x y ≡ reaches ps x y
+closed-both : (ps : Table Policy) (x y : Container) → both_permit (closed ps) x y ≡ both_permit ps x y
+unfolding both_permit
+closed-both ps x y = ap₂ ◌&&◌ (closed-permits egress ps x y) (closed-permits ingress ps y x)
+
+-- two slots of the table closed up are one where the standing slots that they come from are
+closed-reaches : (i j a b : ℕ) → eqb i j ≡ eqb a b → (ps : Table Policy) (x y : Container) → reaches (closed ps) i j x y ≡ reaches ps a b x y
 unfolding reaches
-closed-reaches ps x y = ap₂ ◌&&◌ (closed-permits egress ps x y) (closed-permits ingress ps y x)
+closed-reaches i j a b e ps x y = ap₂ ◌||◌ e (closed-both ps x y)
 
 -- a rule asked of what two slots hold
 closed-rule : {A B : Type 0} (f g : A → B → Bool) → ((x : A) (y : B) → f x y ≡ g x y) → (t : Table A) (u : Table B) (i j : ℕ)
@@ -123,7 +129,9 @@ module _ (m : Model) where
   pub closed-matrix : (i j : ℕ) → i < length (containers_of m) → j < length (containers_of m)
       → (computed_bits (closed_up m)).matrix i j ≡ (computed_bits m).matrix (get_or (containers_of m) i 0) (get_or (containers_of m) j 0)
   unfolding computed_bits matrix_bit closed_up
-  closed-matrix i j = closed-rule (reaches (closed m.policies)) (reaches m.policies) (closed-reaches m.policies) m.containers m.containers i j
+  closed-matrix i j h k =
+      closed-rule (reaches (closed m.policies) i j) (reaches m.policies (get_or (containers_of m) i 0) (get_or (containers_of m) j 0))
+      (closed-reaches _ _ _ _ (up-same (containers_of m) (standing-up m.containers) i j h k) m.policies) m.containers m.containers i j h k
 
   pub closed-selected : (q i : ℕ) → q < length (policies_of m) → i < length (containers_of m)
       → (computed_bits (closed_up m)).selected q i ≡ (computed_bits m).selected (get_or (policies_of m) q 0) (get_or (containers_of m) i 0)

@@ -21,3 +21,4 @@ pub mod OnePass
 pub mod Refused
 pub mod Batch
 pub mod File
+pub mod Itself

@@ -1,13 +1,14 @@
 -- Laws of tests, lists and standing slots that the files beside this one share.
-use mathlib.Core.Path.{◌≡◌, refl, ap, ◌∙◌}
+use mathlib.Core.Path.{◌≡◌, refl, sym, ap, ◌∙◌}
 use mathlib.Core.Bool.{Bool, true, false, ◌&&◌, ◌||◌, cond, or-true, or_assoc, and-eq-true_iff}
 use mathlib.Core.List.{List, [], ◌∷◌, ◌++◌, map}
 use mathlib.Core.Option.{none, some}
 use Prim.Native.Nat.{ℕ, zero, suc, ◌+◌, ◌≤◌, ◌<◌}
-use native.Mathlib.Nat.{le_refl, zero-add}
+use native.Mathlib.Nat.{le_refl, zero-add, not-suc-le-zero, le_of_suc-le-suc}
+use native.Mathlib.Decide.{ℕ_discrete}
 use native.Mathlib.Omega.{arith}
-use lib.Dec.{eqb}
-use lib.ListN.{length}
+use lib.Dec.{eqb, eqb-zero-suc, eqb-suc-zero, eqb-suc-suc}
+use lib.ListN.{length, get_or}
 use borrow.Author.Tests.{eq-eqb, ne_eqb}
 use Rattle.model.specs.Table.{Table, any, stands, standing, standing_from, up_from}
 
@@ -26,6 +27,13 @@ neither false b h = (refl, h)
 pub denied : (a : Bool) → (a ≡ true → a ≡ false) → a ≡ false
 denied true h = h refl
 denied false h = refl
+
+pub eqb-sym : (a b : ℕ) → eqb a b ≡ eqb b a
+eqb-sym a b = go (ℕ_discrete a b)
+  where
+    go : Dec (a ≡ b) → eqb a b ≡ eqb b a
+    go (yes e) = eq-eqb a b e ∙ sym (eq-eqb b a (sym e))
+    go (no n) = ne_eqb a b n ∙ sym (ne_eqb b a (λ e. n (sym e)))
 
 pub or_right : (a b : Bool) → b ≡ true → (a || b) ≡ true
 or_right a b h = rw h (or-true a)
@@ -51,6 +59,11 @@ module _ {A : Type 0} where
   pub all_append : (P : A → Type 0) (l m : List A) → All P l → All P m → All P (l ++ m)
   all_append P [] m s t = t
   all_append P (x ∷ l) m s t = (s.0, all_append P l m s.1 t)
+
+  all_at : (P : A → Type 0) (l : List A) → All P l → (i : ℕ) (d : A) → i < length l → P (get_or l i d)
+  all_at P [] t i d h = absurd (not-suc-le-zero h)
+  all_at P (x ∷ l) t zero d h = t.0
+  all_at P (x ∷ l) t (suc i) d h = all_at P l t.1 i d (le_of_suc-le-suc h)
 
   pub sorted-append : (R : A → A → Type 0) (l m : List A) → Sorted R l → Sorted R m → All (λ x. All (R x) m) l → Sorted R (l ++ m)
   sorted-append R [] m s t h = t
@@ -120,6 +133,14 @@ module _ {A : Type 0} where
 
   pub elem-standing : (x : ℕ) (t : Table A) → elem x (standing t) ≡ stands t x
   elem-standing x t = rw zero-add at (from-elem 0 x t)
+
+-- two places of a rising list have one number only if they are one
+pub up-same : (l : List ℕ) → Up l → (i j : ℕ) → i < length l → j < length l → eqb i j ≡ eqb (get_or l i 0) (get_or l j 0)
+up-same [] s i j h k = absurd (not-suc-le-zero h)
+up-same (x ∷ l) s zero zero h k = sym (eq-eqb x x refl)
+up-same (x ∷ l) s zero (suc j) h k = let b = all_at (λ y. x < y) l s.0 j 0 (le_of_suc-le-suc k) in eqb-zero-suc j ∙ sym (ne_eqb x (get_or l j 0) (omega arith))
+up-same (x ∷ l) s (suc i) zero h k = let b = all_at (λ y. x < y) l s.0 i 0 (le_of_suc-le-suc h) in eqb-suc-zero i ∙ sym (ne_eqb (get_or l i 0) x (omega arith))
+up-same (x ∷ l) s (suc i) (suc j) h k = eqb-suc-suc i j ∙ up-same l s.1 i j (le_of_suc-le-suc h) (le_of_suc-le-suc k)
 
 pub length_up : (i n : ℕ) → length (up_from i n) ≡ n
 length_up i zero = refl

@@ -12,6 +12,7 @@ use lib.Seq.{get_or-set_same}
 use borrow.Author.Tests.{eqb-true}
 use Rattle.block.specs.Entry.{Policy}
 use Rattle.model.specs.Table.{Table, any, on, at, stands, lowest_free}
+use Rattle.model.specs.Rules.{reaches}
 use Rattle.model.specs.Model.{Model, with_container, with_policy, matrix_bit, selected_bit, allowed_bit, computed_bits}
 use Rattle.model.specs.Calls.{Answer, refusal, run}
 use Rattle.model.specs.ModelStep.{admitting_block}
@@ -24,9 +25,9 @@ use Rattle.model.proofs.Tables.{lowest-is-free}
 use Rattle.model.proofs.Lowest.{lowest-below}
 use Rattle.model.proofs.Changes.{Changes, entries_after, set_bits, bits_after, set_once, Lawful, AllFit}
 use Rattle.model.proofs.ChangesLaws.{once}
-use Rattle.model.proofs.Book.{BitPlace, EntryChange, container_becomes, policy_becomes, put_entry, bit_by_rules, touched_by, book_changes}
+use Rattle.model.proofs.Book.{reflexive, BitPlace, EntryChange, container_becomes, policy_becomes, put_entry, bit_by_rules, touched_by, book_changes}
 use Rattle.model.proofs.BookLawful.{other-slot, book-lawful}
-use Rattle.model.proofs.WrittenRules.{written_rules, model_book, model-laws, registry_with, registry-change}
+use Rattle.model.proofs.WrittenRules.{both_directions, written_rules, model_book, model-laws, registry_with, registry-change}
 use Rattle.model.proofs.Clear.{stored_at}
 use Rattle.model.proofs.Came.{touched_at, touched_came, none_came, Sits, one-came}
 use Rattle.model.proofs.Admission.{Comes, slot_answer, comes-fits, Outcome, turned, came, outcome}
@@ -127,7 +128,7 @@ lawful =
 
 set-settled : (m : Model) (old : BitPlace → Bool) (cs qs : ℕ → Bool)
     → registry_with m (λ i. cond (touched_at m cs qs i) (bit_by_rules model_book m i) (old i)) ≡ settled cs qs (registry_with m old)
-unfolding registry_with settled set_where computed_bits matrix_bit selected_bit allowed_bit bit_by_rules model_book written_rules
+unfolding registry_with settled set_where computed_bits matrix_bit selected_bit allowed_bit reaches bit_by_rules model_book written_rules reflexive both_directions
 set-settled m old cs qs = refl
 
 module _ (m : Model) (old : BitPlace → Bool) (bs : List (List ℕ)) where

@@ -9,18 +9,22 @@ use Rattle.block.specs.declared.Direction.{Direction}
 use Rattle.block.specs.declared.Direction.TheVariants.{Ingress as ingress, Egress as egress}
 use Rattle.block.specs.Entry.{Container, Policy}
 use Rattle.model.specs.Table.{Table, any, on, at}
-use Rattle.model.specs.Rules.{selects, allows, same_direction, some_selects, some_allows, permits, reaches}
+use Rattle.model.specs.Rules.{selects, allows, same_direction, some_selects, some_allows, permits, both_permit, reaches}
 use Rattle.model.specs.Model.{Model, with_container, with_policy, matrix_bit, selected_bit, allowed_bit, computed_bits}
 use Rattle.model.specs.Registry.{Registry, computed, set_where, change_container, touches, touched, change_policy}
 use Rattle.model.proofs.Lists.{neither}
 use Rattle.model.proofs.Changes.{set_bits}
 use Rattle.model.proofs.ChangesLaws.{computed-after}
-use Rattle.model.proofs.Book.{Rules, IsOrFree, LawfulRules, Book, BookLaws, BitPlace, matrix, selected, allowed, EntryChange, container_becomes, policy_becomes}
+use Rattle.model.proofs.Book.{Rules, IsOrFree, LawfulRules, reflexive, reflexive-lawful, Book, BookLaws, BitPlace, matrix, selected, allowed, EntryChange, container_becomes, policy_becomes}
 use Rattle.model.proofs.Book.{put_entry, bit_by_rules, touched_by, book_changes, Fitting}
 use Rattle.model.proofs.BookLawful.{book-lawful}
 
+-- both directions decide, of a container and itself too: as document 01 has it
+unfoldable pub both_directions : Rules Policy
+both_directions = record { selects = selects; allows = allows; reaches = λ ps a b u v. both_permit ps u v; touches = touches }
+
 unfoldable pub written_rules : Rules Policy
-written_rules = record { selects = selects; allows = allows; reaches = λ ps a b u v. reaches ps u v; touches = touches }
+written_rules = reflexive both_directions
 
 -- a change at one slot, where neither the old entry nor the new one passes the test
 any-set : {A : Type 0} (f : A → Bool) (l : List A) (i : ℕ) (x d : A) → f x ≡ false → f (get_or l i d) ≡ false → any f (set l i x) ≡ any f l
@@ -38,15 +42,19 @@ module _ (ps : Table Policy) (q : ℕ) (p : Policy) (x : Option Policy) (old : I
         any-set (on (λ r. same_direction d r.direction && (selects r u && allows r v))) ps q x none (new _ e') (old _ e'),
       )
 
-  reaches-other : (u v : Container) → touches p u v ≡ false → reaches (set ps q x) u v ≡ reaches ps u v
-  unfolding reaches touches
-  reaches-other u v e =
+  both-other : (u v : Container) → touches p u v ≡ false → both_permit (set ps q x) u v ≡ both_permit ps u v
+  unfolding both_permit touches
+  both-other u v e =
       let h = neither (same_direction egress p.direction && selects p u) (same_direction ingress p.direction && selects p v) e in
       rw (permits-other egress u v h.0, permits-other ingress v u h.1)
 
+both-lawful : LawfulRules both_directions
+unfolding both_directions
+both-lawful = record { untouched = λ ps q p x old new a b u v. both-other ps q p x old new u v }
+
 written-lawful : LawfulRules written_rules
 unfolding written_rules
-written-lawful = record { untouched = λ ps q p x old new a b u v. reaches-other ps q p x old new u v }
+written-lawful = reflexive-lawful both_directions both-lawful
 
 -- ---- the entries of the reference model are a book
 
@@ -87,12 +95,12 @@ registry_after r (policy_becomes q p x) = change_policy r q p x
 
 pub registry-change : (m : Model) (bits : BitPlace → Bool) (c : EntryChange Policy)
     → registry_after (registry_with m bits) c ≡ registry_with (put_entry model_book m c) (set_bits (book_changes model_book) m c bits)
-unfolding registry_with change_container change_policy set_where touched computed_bits matrix_bit selected_bit allowed_bit with_policy put_entry set_bits book_changes touched_by bit_by_rules model_book written_rules
+unfolding registry_with change_container change_policy set_where touched computed_bits matrix_bit selected_bit allowed_bit reaches with_policy put_entry set_bits book_changes touched_by bit_by_rules model_book written_rules reflexive both_directions
 registry-change m bits (container_becomes c x) = refl
 registry-change m bits (policy_becomes q p x) = refl
 
 pub computed-is : (m : Model) → computed m ≡ registry_with m (bit_by_rules model_book m)
-unfolding registry_with computed computed_bits matrix_bit selected_bit allowed_bit bit_by_rules model_book written_rules
+unfolding registry_with computed computed_bits matrix_bit selected_bit allowed_bit reaches bit_by_rules model_book written_rules reflexive both_directions
 computed-is m = refl
 
 -- Every change that fits keeps a registry computed.

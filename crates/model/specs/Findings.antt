@@ -1,5 +1,5 @@
 -- The seven findings: over the standing entries of a model, and bits.
-use Rattle.std.specs.Prelude.{Bool, not, ◌&&◌, ◌||◌, cond, List, [], ◌∷◌, ◌++◌, ℕ, zero, suc, ◌+◌, ◌*◌, eqb, ltb}
+use Rattle.std.specs.Prelude.{Bool, not, ◌&&◌, ◌||◌, cond, List, [], ◌∷◌, ◌++◌, ℕ, zero, suc, ◌+◌, ◌*◌, eqb, ltb, length}
 use Rattle.std.proofs.Math.Option.{Option, none, some}
 use Rattle.model.specs.declared.Finding.{Finding}
 use Rattle.model.specs.Table.{any, all, count, first, on, at, stands, standing, below}
@@ -45,9 +45,10 @@ module _ (m : Model) (s : Bits) where
   unfoldable pub all_reachable : ℕ → Bool
   all_reachable a = all (λ c. s.matrix c a) (containers_of m)
 
-  -- 2. "no container reaches a"
+  -- 2. Document 01: "no container reaches a." Document 02, Note 3: "All isolated means that no other container reaches it, and needs at
+  -- least two standing containers."
   unfoldable pub all_isolated : ℕ → Bool
-  all_isolated a = not (any (λ c. s.matrix c a) (containers_of m))
+  all_isolated a = ltb 1 (length (containers_of m)) && not (any (λ c. not (eqb c a) && s.matrix c a) (containers_of m))
 
   -- 3. "a and b are different, a reaches b, and they don't both carry the user key with one value"
   unfoldable pub user_cross : ℕ → ℕ → Bool

@@ -14,3 +14,4 @@ pub mod Settled
 pub mod Refusals
 pub mod RegistryStep
 pub mod OnePass
+pub mod Itself

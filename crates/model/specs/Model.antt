@@ -37,7 +37,7 @@ pub record Bits : Type 0 where
 
 -- "worked out by the written rules from the standing entries, a bit of an empty place being clear"
 unfoldable pub matrix_bit : Model → ℕ → ℕ → Bool
-matrix_bit m a b = on (λ x. on (λ y. reaches m.policies x y) (at m.containers b)) (at m.containers a)
+matrix_bit m a b = on (λ x. on (λ y. reaches m.policies a b x y) (at m.containers b)) (at m.containers a)
 
 unfoldable pub selected_bit : Model → ℕ → ℕ → Bool
 selected_bit m q c = on (λ p. on (λ x. selects p x) (at m.containers c)) (at m.policies q)

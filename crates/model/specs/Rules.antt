@@ -1,5 +1,5 @@
 -- The written rules.
-use Rattle.std.specs.Prelude.{Bool, true, false, not, ◌&&◌, ◌||◌, List, eqb}
+use Rattle.std.specs.Prelude.{Bool, true, false, not, ◌&&◌, ◌||◌, List, ℕ, eqb}
 use Rattle.block.specs.declared.Direction.{Direction}
 use Rattle.block.specs.declared.Direction.TheVariants.{Ingress as ingress, Egress as egress}
 use Rattle.block.specs.Entry.{Label, Container, Policy}
@@ -43,6 +43,11 @@ some_allows d ps c o = any (on (λ p. same_direction d p.direction && (selects p
 unfoldable pub permits : Direction → Table Policy → Container → Container → Bool
 permits d ps c o = not (some_selects d ps c) || some_allows d ps c o
 
--- "a reaches b if both let it. This includes a = b."
-unfoldable pub reaches : Table Policy → Container → Container → Bool
-reaches ps a b = permits egress ps a b && permits ingress ps b a
+-- "a reaches b if both let it."
+unfoldable pub both_permit : Table Policy → Container → Container → Bool
+both_permit ps a b = permits egress ps a b && permits ingress ps b a
+
+-- Document 01 goes on: "This includes a = b." Document 02, Note 3, mends it: "Document 01 puts a = b through the policies, which is
+-- wrong. A standing container now always reaches itself." So it does here: x and y stand at the slots a and b.
+unfoldable pub reaches : Table Policy → ℕ → ℕ → Container → Container → Bool
+reaches ps a b x y = eqb a b || both_permit ps x y

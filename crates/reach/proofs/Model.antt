@@ -6,6 +6,7 @@ use mathlib.Core.Option.{Option, none, some as just}
 use Prim.Native.Nat.{ℕ, zero, suc, ◌+◌, ◌<◌}
 use native.Mathlib.Nat.{add-zero, zero-add}
 use native.Mathlib.Omega.{arith}
+use lib.Dec.{eqb}
 use lib.ListN.{length}
 use Rattle.bitrow.specs.Set.{some}
 use Rattle.bitrow.proofs.Sets.{point}
@@ -17,6 +18,7 @@ use Rattle.model.specs.Table.{Table, any, on, at, stands, standing, standing_fro
 use Rattle.model.specs.Rules.{same_direction, selects, allows, some_selects, some_allows}
 use Rattle.model.specs.Rules as rules
 use Rattle.model.specs.Model.{policy_slots, Model, matrix_bit, selected_bit, allowed_bit}
+use Rattle.model.proofs.Lists.{eqb-sym}
 use Rattle.sets.specs.declared.PolicySets.{PolicySets}
 use Rattle.sets.specs.Sets.{bits, RowsAre, SetsOf}
 use Rattle.rules.specs.Lets.{having, union, sets_let, line}
@@ -88,18 +90,19 @@ model_line m d a b = line (length m.policies) (stands m.containers) (direction_s
 
 module _ (m : Model) (a b : ℕ) where
   row-model : (o p : Slot) → at m.containers a ≡ o → at m.containers b ≡ p → model_line m egress a b ≡ matrix_bit m a b
-  unfolding line matrix_bit rules.reaches
+  unfolding line matrix_bit rules.reaches rules.both_permit
   row-model none p e f = rw e
   row-model (just x) none e f = rw (e, f)
   row-model (just x) (just y) e f = rw (lets-model m egress a b x y e f, lets-model m ingress b a y x f e, e, f)
 
   column-model : (o p : Slot) → at m.containers b ≡ o → at m.containers a ≡ p → model_line m ingress b a ≡ matrix_bit m a b
-  unfolding line matrix_bit rules.reaches
+  unfolding line matrix_bit rules.reaches rules.both_permit
   column-model none none e f = rw (e, f)
   column-model none (just y) e f = rw (e, f)
   column-model (just x) none e f = rw (e, f)
   column-model (just x) (just y) e f =
-      rw (lets-model m ingress b a x y e f, lets-model m egress a b y x f e, e, f) (and_comm (rules.permits ingress m.policies x y) (rules.permits egress m.policies y x))
+      rw (lets-model m ingress b a x y e f, lets-model m egress a b y x f e, e, f)
+      (ap₂ ◌||◌ (eqb-sym b a) (and_comm (rules.permits ingress m.policies x y) (rules.permits egress m.policies y x)))
 
 -- ---- the rules over candidate sets, the policies in their slots
 
@@ -109,7 +112,7 @@ module _ (m : Model) {n : ℕ} {sel alw : List (List ℕ)}
       → (a b : ℕ) → line n s w v (bits sel) (bits alw) a b ≡ model_line m d a b
   unfolding line
   sets-model d {s} {w} {v} f g h a b =
-      ap₂ (λ (x y : Bool). s a && (s b && (x && y))) (lets-cong n w es.row ea.row a b) (lets-cong n v es.row ea.row b a)
+      ap₂ (λ (x y : Bool). s a && (s b && (eqb a b || (x && y)))) (lets-cong n w es.row ea.row a b) (lets-cong n v es.row ea.row b a)
       ∙ rw (f, g, h, ← size)
 
 module _ (m : Model) {held : PolicySets} (size : length m.policies ≡ policy_slots) (sets : SetsOf m held) {s w v : ℕ → Bool} (f : s ≡ stands m.containers) where

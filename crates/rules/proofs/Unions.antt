@@ -6,9 +6,10 @@ use Prim.Native.Nat.{ℕ, zero, suc, ◌+◌, ◌<◌}
 use native.Mathlib.Decide.{ℕ_discrete}
 use native.Mathlib.Omega.{arith}
 use lib.Dec.{eqb}
+use borrow.Author.Tests.{eq-eqb, ne_eqb}
 use Rattle.std.specs.Prelude.{Option, Some, None, unwrap_or}
 use Rattle.bitrow.specs.Bit.{bit_at}
-use Rattle.bitrow.specs.Set.{nothing, meet, join, less, under, remove, some}
+use Rattle.bitrow.specs.Set.{nothing, meet, join, less, under, insert, remove, some}
 use Rattle.bitrow.proofs.Sets.{point, nothing-at, meet-at, under-in, remove-there, remove-other, remove_absent, nothing-join, join-nothing}
 use Rattle.bitrow.proofs.Tests.{some-zero, some_next, some-skip, some-cong}
 use Rattle.rules.specs.Lets.{having, union, Picks, picked, sets_let, sets_let_by, line}
@@ -175,14 +176,19 @@ module _ {n : ℕ} {w : ℕ → Bool} {sel alw : ℕ → ℕ → Bool} {a : ℕ}
   lets-by-these {t} {y} {z} p e l m f = f ∙ ap (λ (k : ℕ → Bool). join k z) l ∙ ap (join (less s t)) m ∙ lets_by p e
 
 module _ (n : ℕ) (s w v : ℕ → Bool) (sel alw : ℕ → ℕ → Bool) (a : ℕ) where
-  -- one after the other, where a stands
-  pub line-meet : s a ≡ true → meet (meet s (sets_let n w sel alw a)) (sets_let_by n v sel alw a) ≡ line n s w v sel alw a
-  unfolding meet sets_let_by line
-  line-meet e = fun_ext (λ j. rw e (and_assoc (s j) (sets_let n w sel alw a j) (sets_let n v sel alw j a)))
+  -- one after the other, where a stands, and a itself
+  pub line-meet : s a ≡ true → insert a (meet (meet s (sets_let n w sel alw a)) (sets_let_by n v sel alw a)) ≡ line n s w v sel alw a
+  unfolding insert meet sets_let_by line
+  line-meet e = fun_ext (λ j. go j (ℕ_discrete j a))
+    where
+      go : (j : ℕ) → Dec (j ≡ a)
+          → (eqb j a || ((s j && sets_let n w sel alw a j) && sets_let n v sel alw j a)) ≡ (s a && (s j && (eqb a j || (sets_let n w sel alw a j && sets_let n v sel alw j a))))
+      go j (yes q) = rw (e, eq-eqb j a q, eq-eqb a j (sym q), ap s q ∙ e)
+      go j (no m) = rw (e, ne_eqb j a m, ne_eqb a j (λ q. m (sym q))) (and_assoc (s j) (sets_let n w sel alw a j) (sets_let n v sel alw j a))
 
-  pub line-meet-these : {t r : ℕ → Bool} → s a ≡ true → t ≡ meet s (sets_let n w sel alw a) → r ≡ meet t (sets_let_by n v sel alw a)
-      → r ≡ line n s w v sel alw a
-  line-meet-these e h f = f ∙ ap (λ (k : ℕ → Bool). meet k (sets_let_by n v sel alw a)) h ∙ line-meet e
+  pub line-meet-these : {t u r : ℕ → Bool} → s a ≡ true → t ≡ meet s (sets_let n w sel alw a) → u ≡ meet t (sets_let_by n v sel alw a)
+      → r ≡ insert a u → r ≡ line n s w v sel alw a
+  line-meet-these e h f g = g ∙ ap (insert a) (f ∙ ap (λ (k : ℕ → Bool). meet k (sets_let_by n v sel alw a)) h) ∙ line-meet e
 
   pub line-free : s a ≡ false → nothing ≡ line n s w v sel alw a
   unfolding nothing line

@@ -1,6 +1,6 @@
 -- The written rules over sets: policies are numbers below n, those of a direction a set, each with the set that it selects and the
 -- set that it allows.
-use Rattle.std.specs.Prelude.{◌≡◌, Bool, not, ◌&&◌, ◌||◌, Option, Some, None, List, ℕ}
+use Rattle.std.specs.Prelude.{◌≡◌, Bool, not, ◌&&◌, ◌||◌, Option, Some, None, List, ℕ, eqb}
 use Rattle.bitrow.specs.Bit.{bit_at}
 use Rattle.bitrow.specs.Set.{nothing, some}
 
@@ -30,6 +30,6 @@ sets_let n w sel alw c o = not (union w sel n c) || union (having w sel c) alw n
 unfoldable pub sets_let_by : ℕ → (ℕ → Bool) → (ℕ → ℕ → Bool) → (ℕ → ℕ → Bool) → ℕ → ℕ → Bool
 sets_let_by n w sel alw o c = sets_let n w sel alw c o
 
--- b among the standing s, where a stands too: the policies of w let a have to do with b, and those of v let b have to do with a
+-- b among the standing s, where a stands too: a itself, and whom the policies of w let a have to do with and those of v let have to do with a
 unfoldable pub line : ℕ → (ℕ → Bool) → (ℕ → Bool) → (ℕ → Bool) → (ℕ → ℕ → Bool) → (ℕ → ℕ → Bool) → ℕ → ℕ → Bool
-line n s w v sel alw a b = s a && (s b && (sets_let n w sel alw a b && sets_let n v sel alw b a))
+line n s w v sel alw a b = s a && (s b && (eqb a b || (sets_let n w sel alw a b && sets_let n v sel alw b a)))

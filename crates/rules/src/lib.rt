@@ -133,8 +133,8 @@ pub struct Sides {
     pub chosen: [u64; 4],
 }
 
-// The standing containers that a standing a reaches, where `out` are the egress and `back` the ingress policies; those that reach a,
-// where they are exchanged.
+// The standing containers that a standing a reaches, itself among them, where `out` are the egress and `back` the ingress policies; those
+// that reach a, where they are exchanged.
 pub fn row_by_rules(a: usize, sides: Sides, sets: &PolicySets) -> [u64; 4]
     requires a_bound { a < 256 }
     requires chosen_value { bit_at sides.chosen ≡ union (bit_at sides.back) (bits sets.now.selected) 128 }
@@ -144,5 +144,6 @@ pub fn row_by_rules(a: usize, sides: Sides, sets: &PolicySets) -> [u64; 4]
         return row_sets::none();
     }
     let there = outward(a, sides.out, sets, sides.standing);
-    inward(a, sides.back, sides.chosen, sets, there)
+    let others = inward(a, sides.back, sides.chosen, sets, there);
+    row_sets::with(others, a)
 }

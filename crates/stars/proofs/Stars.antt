@@ -54,7 +54,7 @@ unfolding test stars
     sealed checksum weighted Reader.read_entry Reader.entry_checks Reader.entry_said Reader.policy_said Reader.direction_of Reader.layout_of
     Reader.container_layout Reader.policy_layout Reader.zero_fault Reader.label_at Reader.order_fault Reader.rise_fault Reader.range_fault
     Reader.label_fault Reader.within
-    Rules.reaches Rules.permits Rules.some_allows Rules.some_selects Rules.same_direction Rules.allows Rules.selects Rules.matches Rules.carries Rules.same_label
+    Rules.reaches Rules.both_permit Rules.permits Rules.some_allows Rules.some_selects Rules.same_direction Rules.allows Rules.selects Rules.matches Rules.carries Rules.same_label
     Model.with_policy Model.computed_bits Model.matrix_bit Model.selected_bit Model.allowed_bit
     Findings.findings Findings.kinds Findings.irrelevance Findings.needless Findings.conflict Findings.shadow Findings.among Findings.connected
     Findings.system_isolation Findings.user_cross Findings.all_isolated Findings.all_reachable Findings.connects Findings.one_direction

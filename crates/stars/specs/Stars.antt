@@ -1,4 +1,4 @@
--- Document 01, "Instances to hold on to": the starred ones as one table, and what it claims.
+-- Document 01, "Instances to hold on to": the starred ones as one table, and what it claims; under the rules as document 02, Note 3, mends them.
 use Rattle.std.specs.Prelude.{◌≡◌, Bool, true, false, not, ◌&&◌, List, [], ◌∷◌, ℕ, ◌-◌, eqb, replicate}
 use Rattle.std.specs.Bool.{beq}
 use Rattle.std.proofs.Math.Option.{none, some}
@@ -117,6 +117,10 @@ printed = model_of (record { user_key = 1; system_key = 2; system_value = 9 })
     ∷ policy_to egress (label 3 2 ∷ []) (label 1 13 ∷ [])
     ∷ [])
 
+-- Policies that select every container and allow none, one of each direction.
+abbrev pub closing : List Policy
+closing = policy_to ingress [] (label 1 9 ∷ []) ∷ policy_to egress [] (label 1 9 ∷ []) ∷ []
+
 unfoldable pub stars : List Instance
 stars =
     -- "The settings block above has check 145; its first container block has 207."
@@ -126,8 +130,8 @@ stars =
     ∷ has_findings (model_of no_system [] []) []
     ∷ has_matrix (model_of no_system ([] ∷ []) []) ((0 ∷ []) ∷ []) 1
     ∷ has_findings (model_of no_system ([] ∷ []) []) (finding 1 0 0 ∷ [])
-    -- "The matrix and the shadow of the sheet above."
-    ∷ has_matrix printed ((0 ∷ 1 ∷ 2 ∷ 3 ∷ []) ∷ [] ∷ (0 ∷ 1 ∷ 2 ∷ 3 ∷ []) ∷ (0 ∷ 2 ∷ 3 ∷ []) ∷ []) 11
+    -- "The matrix and the shadow of the sheet above." Note 3: "The printed sheet's PAIRS becomes 12; its findings don't change."
+    ∷ has_matrix printed ((0 ∷ 1 ∷ 2 ∷ 3 ∷ []) ∷ (1 ∷ []) ∷ (0 ∷ 1 ∷ 2 ∷ 3 ∷ []) ∷ (0 ∷ 2 ∷ 3 ∷ []) ∷ []) 12
     ∷ has_findings printed
     (finding 3 0 2 ∷ finding 3 0 3 ∷ finding 3 2 0 ∷ finding 3 2 1 ∷ finding 3 2 3 ∷ finding 3 3 0 ∷ finding 3 3 2
     ∷ finding 4 3 1 ∷ finding 5 1 0 ∷ finding 7 2 1 ∷ [])
@@ -138,7 +142,7 @@ stars =
     -- "A container under an egress policy only: in its column, the bits in rows of containers that the policy doesn't select
     -- are untouched by it."
     ∷ leaves_column (model_of no_system three []) (policy_to egress (label 1 1 ∷ []) (label 1 2 ∷ [])) 0 (1 ∷ 2 ∷ [])
-    ∷ has_matrix (model_of no_system three (policy_to egress (label 1 1 ∷ []) (label 1 2 ∷ []) ∷ [])) ((1 ∷ []) ∷ (0 ∷ 1 ∷ 2 ∷ []) ∷ (0 ∷ 1 ∷ 2 ∷ []) ∷ []) 7
+    ∷ has_matrix (model_of no_system three (policy_to egress (label 1 1 ∷ []) (label 1 2 ∷ []) ∷ [])) ((0 ∷ 1 ∷ []) ∷ (0 ∷ 1 ∷ 2 ∷ []) ∷ (0 ∷ 1 ∷ 2 ∷ []) ∷ []) 8
     -- "Policies allowing {0} and {2}, both selecting 1, both ingress: 6 0 1."
     ∷ lists_first (model_of no_system three (policy_to ingress (label 1 2 ∷ []) (label 1 1 ∷ []) ∷ policy_to ingress (label 1 2 ∷ []) (label 1 3 ∷ []) ∷ []))
     (finding 6 0 1) (finding 6 1 0)
@@ -146,4 +150,9 @@ stars =
     ∷ is_refused (67 ∷ 2 ∷ 0 ∷ 0 ∷ 0 ∷ 3 ∷ 0 ∷ 1 ∷ 0 ∷ 1 ∷ 0 ∷ 0 ∷ []) 7 10
     -- No star, but a misreading that document 01 names: a policy that allows nothing is not taken as shadowed.
     ∷ lists_first (model_of no_system three (policy_to ingress (label 1 1 ∷ []) (label 1 9 ∷ []) ∷ policy_to ingress [] [] ∷ [])) (finding 7 0 1) (finding 5 0 1)
+    -- No star, but Note 3: "Kubernetes does not let a policy block a container from itself." One alone is not isolated, two are.
+    ∷ has_matrix (model_of no_system ([] ∷ []) closing) ((0 ∷ []) ∷ []) 1
+    ∷ has_findings (model_of no_system ([] ∷ []) closing) (finding 1 0 0 ∷ finding 7 0 1 ∷ finding 7 1 1 ∷ [])
+    ∷ has_matrix (model_of no_system ([] ∷ [] ∷ []) closing) ((0 ∷ []) ∷ (1 ∷ []) ∷ []) 2
+    ∷ has_findings (model_of no_system ([] ∷ [] ∷ []) closing) (finding 2 0 0 ∷ finding 2 1 0 ∷ finding 7 0 1 ∷ finding 7 1 1 ∷ [])
     ∷ []

@@ -140,7 +140,9 @@ fn lines(s: &Sets, some: Row, mut each: impl FnMut(usize, Row)) {
     for a in 0..CONTAINER_SLOTS {
         if has(&some, a) {
             let there = if has(&bound, a) { both(s.containers, outs[a]) } else { s.containers };
-            each(a, either(except(there, chosen), both(there, backs[a])));
+            let mut row = either(except(there, chosen), both(there, backs[a]));
+            put(&mut row, a);
+            each(a, row);
         }
     }
 }

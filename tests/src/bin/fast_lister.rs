@@ -358,6 +358,7 @@ fn fill_matrix(matrix: &mut [Row; CONTAINERS], s: &Sets, e: &Entries) {
         let out = meet(s.selecting[a], e.egress);
         let there = if out == [0, 0] { s.standing } else { union(out, &s.allowed) };
         *row = both(there, either(open, union(meet(s.allowing[a], e.ingress), &s.selected)));
+        row[a / 64] |= 1 << (a % 64);
     }
 }
 
@@ -365,9 +366,11 @@ fn fill_matrix(matrix: &mut [Row; CONTAINERS], s: &Sets, e: &Entries) {
 
 fn containers_findings(matrix: &[Row], s: &Sets, l: &LabelRows, text: &mut Text) {
     let every = matrix.iter().fold(s.standing, |all, row| both(all, *row));
-    let none = matrix.iter().fold(s.standing, |none, row| except(none, *row));
     ones(&every, |a| text.lines(1, a, &[1]));
-    ones(&none, |a| text.lines(2, a, &[1]));
+    if matrix.len() > 1 {
+        let none = matrix.iter().enumerate().fold(s.standing, |none, (a, row)| except(none, except(*row, one(a))));
+        ones(&none, |a| text.lines(2, a, &[1]));
+    }
     for (a, row) in matrix.iter().enumerate() {
         text.lines(3, a, &except(except(*row, l.rows[usize::from(s.users[a])]), one(a)));
     }

@@ -13,8 +13,8 @@ returns-then-not-has-clause-row c =
 
 pub returns-in-AllReachable-clause-row : goal.returns-in-AllReachable-clause-row
 returns-in-AllReachable-clause-row c =
-    of-kind _ 1 _ _ (c.zero_if.ensures ∙ row-1 _ _ (c.has-in-AllReachable.ensures ∙ point (c.tell.ensures.view.by_all c.tell.ensures.told) _)) (ap kind_number c.in-AllReachable.is)
+    of-kind _ 1 _ _ (c.zero_if.ensures ∙ row-1 _ _ (c.has-in-AllReachable.ensures ∙ point ((c.tell.ensures.view.told c.tell.ensures.told).by_all) _)) (ap kind_number c.in-AllReachable.is)
 
 pub returns-in-AllIsolated-clause-row : goal.returns-in-AllIsolated-clause-row
 returns-in-AllIsolated-clause-row c =
-    of-kind _ 2 _ _ (c.zero_if-in-AllIsolated.ensures ∙ row-2 _ _ (c.has-in-AllIsolated.ensures ∙ point (c.tell-in-AllIsolated.ensures.view.by_none c.tell-in-AllIsolated.ensures.told) _)) (ap kind_number c.in-AllIsolated.is)
+    of-kind _ 2 _ _ (c.zero_if-in-AllIsolated.ensures ∙ row-2 _ _ (c.has-in-AllIsolated.ensures ∙ point ((c.tell-in-AllIsolated.ensures.view.told c.tell-in-AllIsolated.ensures.told).by_none) _)) (ap kind_number c.in-AllIsolated.is)

@@ -3,10 +3,10 @@ use Rattle.container_findings.proofs.SlotLaws.{slots-1, slots-2, slots-unset, sl
 use Rattle.container_findings.proofs.container_slots.Goals as goal
 
 pub returns-in-AllReachable : goal.returns-in-AllReachable
-returns-in-AllReachable c = rw c.in-AllReachable.is (slots-1 _ (c.requires.1.by_all c.if-view.true))
+returns-in-AllReachable c = rw c.in-AllReachable.is (slots-1 _ (c.requires.1.told c.if-view.true).by_all)
 
 pub returns-in-AllIsolated : goal.returns-in-AllIsolated
-returns-in-AllIsolated c = rw c.in-AllIsolated.is (slots-2 _ (c.requires.1.by_none c.if-view-2.true))
+returns-in-AllIsolated c = rw c.in-AllIsolated.is (slots-2 _ (c.requires.1.told c.if-view-2.true).by_none)
 
 pub returns-in-SystemIsolation : goal.returns-in-SystemIsolation
 returns-in-SystemIsolation c = rw c.in-SystemIsolation.is (slots-unset _ c.requires.0 c.if-memory-eq0.true)
