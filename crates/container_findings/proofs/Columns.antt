@@ -18,7 +18,7 @@ use Rattle.formed.proofs.StoredLaws.{matrix-row}
 use Rattle.entries.specs.Tables.{container_tabled}
 use Rattle.entries.proofs.Trials.{container-below}
 use Rattle.counts.proofs.CountLaws.{table-counted}
-use Rattle.container_findings.specs.Rows.{shown_at, containers_stand, zero_if, if_two}
+use Rattle.container_findings.specs.Rows.{shown_at, containers_stand, zero_if, if_two_stand}
 use Rattle.container_findings.specs.declared.Left.{Left}
 use Rattle.container_findings.specs.Passes.{word_set, narrowed, reached_by, spares, Passed}
 use Rattle.container_findings.specs.Views.{told_of}
@@ -113,8 +113,8 @@ module _ {m set : List ℕ} {t : Left} (e : bit_at set ≡ containers_stand m) (
   unfolding narrowed
   passed-1 = p.by_all ∙ fun_ext (λ a. ap (λ (s : ℕ → Bool). s a && part s (reached_by (bits_in m) a)) e ∙ sym (told-1 m a))
 
-  pub passed-2 : if_two (bit_at set) (bit_at t.by_none) ≡ told_of m 2
-  unfolding if_two narrowed
+  pub passed-2 : if_two_stand (bit_at set) (bit_at t.by_none) ≡ told_of m 2
+  unfolding if_two_stand narrowed
   passed-2 = fun_ext (λ a.
       ap₂ (λ (n : ℕ) t. ltb 1 n && t) (table-counted (container_tabled m) set e refl)
       (point p.by_none a ∙ ap (λ (s : ℕ → Bool). s a && part s (spares (bits_in m) a)) e)

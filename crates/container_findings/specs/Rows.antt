@@ -23,9 +23,9 @@ policies_stand m = stands (model_in m).policies
 unfoldable pub zero_if : Bool → ℕ → Bool
 zero_if t b = t && eqb b 0
 
--- what is in t, if at least two are in s
-unfoldable pub if_two : (ℕ → Bool) → (ℕ → Bool) → ℕ → Bool
-if_two s t a = ltb 1 (size s 256) && t a
+-- what is in t, if at least two stand, s being those that do
+unfoldable pub if_two_stand : (ℕ → Bool) → (ℕ → Bool) → ℕ → Bool
+if_two_stand s t a = ltb 1 (size s 256) && t a
 
 -- the containers whose word under the user key is this one; it is 0 where they have none
 unfoldable pub with_user : List ℕ → ℕ → ℕ → Bool

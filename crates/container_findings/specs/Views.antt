@@ -33,14 +33,14 @@ unfoldable pub told_of : List ℕ → ℕ → ℕ → Bool
 told_of m k a = shown_at m k a 0
 
 -- those that every container reaches and those that are isolated
-pub record Told (m : List ℕ) (left : Left) : Type 0 where
+pub record BothTold (m : List ℕ) (left : Left) : Type 0 where
   pub by_all : bit_at left.by_all ≡ told_of m 1
   pub by_none : bit_at left.by_none ≡ told_of m 2
 
 -- the containers that stand, some users, and if they are told those that every container reaches and those that are isolated
 pub record ContainersSeen (m : List ℕ) (view : ContainerView) : Type 0 where
   pub standing : bit_at view.standing ≡ containers_stand m
-  pub told : view.told ≡ true → Told m (record { by_all = view.by_all; by_none = view.by_none })
+  pub told : view.told ≡ true → BothTold m (record { by_all = view.by_all; by_none = view.by_none })
   pub users : UsersOf m view.users
 
 -- a row that has every slot at which there is a finding of kind k

@@ -6,9 +6,9 @@ ghost use Rattle.bitrow.specs.Bit.{bit_at};
 ghost use Rattle.bitrow.specs.Set.{meet, under};
 ghost use Rattle.model.specs.Kinds.{kind_number};
 ghost use Rattle.formed.specs.Registry.{EntriesFormed};
-ghost use Rattle.container_findings.specs.Rows.{shown_at, containers_stand, zero_if, if_two, AtContainer};
+ghost use Rattle.container_findings.specs.Rows.{shown_at, containers_stand, zero_if, if_two_stand, AtContainer};
 ghost use Rattle.container_findings.specs.Passes.{word_set, Passed};
-ghost use Rattle.container_findings.specs.Views.{of_user, OwnWords, places_of, UsersOf, Told, ContainersSeen, SlotsOfKind};
+ghost use Rattle.container_findings.specs.Views.{of_user, OwnWords, places_of, UsersOf, BothTold, ContainersSeen, SlotsOfKind};
 
 use model::Kind;
 use row_members::Bits;
@@ -120,6 +120,7 @@ impl Users {
 }
 
 // What the rows of some containers leave of all that stand: those that each of them reaches, and those that none of them reaches but itself.
+// Once all that stand have been asked, and two do, these are those that every container reaches, and the isolated ones.
 #[derive(Clone, Copy)]
 struct Left {
     by_all: [u64; 4],
@@ -149,7 +150,7 @@ fn pass(memory: &Words, word: u64, n: usize, left: Left) -> Left
 
 // A row, if at least two containers stand.
 fn if_two_stand(standing: [u64; 4], row: [u64; 4]) -> [u64; 4]
-    ensures { bit_at result ≡ if_two (bit_at standing) (bit_at row) }
+    ensures { bit_at result ≡ if_two_stand (bit_at standing) (bit_at row) }
 {
     if row_reads::count(standing) < 2 {
         return row_sets::none();
@@ -157,12 +158,12 @@ fn if_two_stand(standing: [u64; 4], row: [u64; 4]) -> [u64; 4]
     row
 }
 
-// Those that every container reaches and those that are isolated. Compiled into its callers: where a call stands before a view is made, the
-// compiler clears the whole of it first.
+// What the rows of all that stand leave: those that every container reaches, and those that are isolated, of which there are none where one
+// stands alone. Compiled into its callers: where a call stands before a view is made, the compiler clears the whole of it first.
 #[inline(always)]
 fn left_of(memory: &Words, standing: [u64; 4]) -> Left
     requires { bit_at standing ≡ containers_stand memory.now }
-    ensures { Told memory.now result }
+    ensures { BothTold memory.now result }
 {
     let all = Left {
         by_all: standing,

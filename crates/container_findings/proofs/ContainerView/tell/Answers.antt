@@ -1,4 +1,4 @@
--- What is told then is told.
+-- Where nothing was told, both rows are now what is left; the users stay.
 use Rattle.container_findings.proofs.ContainerView.tell.Goals as goal
 
 pub returns-clause-view : goal.returns-clause-view
