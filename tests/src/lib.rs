@@ -7,6 +7,7 @@ pub mod bytes;
 pub mod c;
 pub mod cases;
 pub mod clock;
+pub mod frames;
 pub mod layout;
 pub mod process;
 pub mod random;

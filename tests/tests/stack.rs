@@ -1,8 +1,15 @@
 //! Every call takes less stack than docs/LINKING.md lets its callers count on.
 
+use bihokura_tests::frames::Functions;
+use bihokura_tests::stack::most;
+
+/// What a call took is no more than the deepest way down from it, which is known since no function calls itself.
 #[test]
 fn no_call_takes_eighty_kibibytes() {
-    for (name, bytes) in bihokura_tests::stack::most() {
-        assert!((1..80 * 1024).contains(&bytes), "{name} takes {bytes} bytes of stack");
+    let functions = Functions::read();
+    for (name, bytes) in most() {
+        let at_most = functions.most(name.split(',').next().unwrap());
+        assert!((1..=at_most).contains(&bytes), "{name} takes {bytes} bytes of stack, {at_most} at most");
+        assert!(at_most < 80 * 1024, "{name} takes up to {at_most} bytes of stack");
     }
 }

@@ -9,10 +9,9 @@ ghost use Rattle.entries.specs.Entries.{free_in, SlotsWithin, NoneFree, slot_fou
 use entries::Slot;
 use store::Words;
 
-// This slot if it is free, else the search among the rest. A slot of `words` words is free if its first word is 0.
-// Kept: a search that calls itself is a rule of the project: document 01 has it first written so, and document 02, Note 4, makes it a loop
-// in a landing by itself. And the memory with the place of a table: a slice of the table's words would be no plainer, since each clause
-// would have to be carried back to the memory whose table it is.
+// The first free one of the slots from `slot` on. A slot of `words` words is free if its first word is 0.
+// Kept: the memory with the place of a table: a slice of the table's words would be no plainer, since each clause would have to be carried
+// back to the memory whose table it is.
 fn lowest_free(
     memory: &[u64],
     start: usize,
@@ -23,13 +22,12 @@ fn lowest_free(
     requires { SlotsWithin memory.now start words slots }
     ensures { result ≡ first_of (free_in memory.now start words) slot (slots - slot) }
 {
-    if slots <= slot {
-        return None;
+    for i in slot..slots {
+        if memory[start + words * i] == 0 {
+            return Some(i);
+        }
     }
-    if memory[start + words * slot] == 0 {
-        return Some(slot);
-    }
-    lowest_free(memory, start, words, slot + 1, slots)
+    None
 }
 
 // The lowest free slot of a table, where none below `from` is free.

@@ -1,8 +1,11 @@
-//! Prints the bytes of stack that each exported call takes at most, over the registries of the benchmarks.
+//! Prints the bytes of stack that each exported call takes: the most over the registries of the benchmarks, and the most that it can
+//! take by the library's object code.
 
 fn main() {
-    println!("| call | bytes of stack |\n|---|---|");
+    let functions = bihokura_tests::frames::Functions::read();
+    println!("| call | measured | at most |\n|---|---|---|");
     for (name, bytes) in bihokura_tests::stack::most() {
-        println!("| `{name}` | {bytes} |");
+        let call = name.split(',').next().unwrap();
+        println!("| `{name}` | {bytes} | {} |", functions.most(call));
     }
 }

@@ -1,0 +1,10 @@
+-- No free slot was found so far: the first one of all is the first one from i on.
+use Rattle.std.proofs.Common.{◌≡◌, ◌-◌}
+use Rattle.bitrow.specs.Set.{first_of}
+use Rattle.entries.specs.Entries.{free_in}
+use Rattle.slot_search.proofs.lowest_free.Given as goal
+
+abbrev pub invariant-loop-i : goal.invariant-loop-i
+invariant-loop-i l =
+    let free = free_in l.memory l.start l.words in
+    first_of free l.slot (l.slots - l.slot) ≡ first_of free l.i (l.slots - l.i)
