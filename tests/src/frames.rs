@@ -9,8 +9,8 @@ const ARCHIVE: &str = concat!(env!("CARGO_MANIFEST_DIR"), "/../target/staticlib/
 /// Where a call comes back to.
 const RETURN: usize = 8;
 
-/// What the library calls of the C library's; they call nothing, and what they take is not counted.
-const OUTSIDE: [&str; 3] = ["memcpy", "memmove", "memset"];
+/// What the library calls of the C library's. What these take is not counted.
+const OUTSIDE: [&str; 2] = ["memcpy", "memset"];
 
 /// The calls with seven arguments: the last one is passed on the stack.
 const SEVEN: [&str; 2] = ["bihokura_findings", "bihokura_admit_batch"];
@@ -18,34 +18,56 @@ const SEVEN: [&str; 2] = ["bihokura_findings", "bihokura_admit_batch"];
 #[derive(Default)]
 struct Function {
     pushed: usize,
-    room: usize,
+    /// Room taken on the stack, in one piece or several, and given back at its end.
+    taken: usize,
+    given_back: usize,
     /// What it uses below the stack pointer, which it does not move for it.
     beyond: usize,
     calls: Vec<String>,
+    /// The instruction before.
+    last: String,
 }
 
 impl Function {
-    /// An instruction as objdump shows it. Room on the stack is taken in one piece or several, and given back in one.
+    /// An instruction as objdump shows it.
     fn take(&mut self, instruction: &str) {
-        let below = instruction.split_once("-0x").and_then(|(_, i)| i.split_once("(%rsp")).map(|(number, _)| number);
-        self.beyond = self.beyond.max(below.map_or(0, |number| usize::from_str_radix(number, 16).unwrap()));
-        if instruction.starts_with("push ") {
-            self.pushed += 8;
-        } else if let Some((by, number)) = instruction.strip_suffix(",%rsp").and_then(|i| i.split_once("$0x")) {
-            assert!(["add", "sub"].contains(&by.trim()), "the stack moves: {instruction}");
-            let bytes = u64::from_str_radix(number, 16).unwrap() as i64;
-            self.room = self.room.max(bytes.unsigned_abs() as usize);
-        } else if let Some(to) = instruction.strip_prefix("call ") {
-            // a jump through one is a `match` and stays in its function
-            assert!(!to.contains('*'), "a call through a pointer: {instruction}");
-            // without a place in it this is the function called; else that stands in the relocation that follows
-            let name = to.split_once('<').filter(|_| !to.contains('+')).map(|(_, name)| name.trim_end_matches('>'));
-            self.calls.extend(name.map(str::to_string));
-        } else {
-            let moves = instruction.ends_with(",%rsp") && !instruction.starts_with("cmp ");
-            assert!(!moves, "the stack moves: {instruction}");
+        let (name, operands) = instruction.split_once(' ').unwrap_or((instruction, ""));
+        let operands = operands.trim();
+        if let Some((number, _)) = operands.split_once("-0x").and_then(|(_, i)| i.split_once("(%rsp")) {
+            self.beyond = self.beyond.max(usize::from_str_radix(number, 16).unwrap());
         }
+        match (name, operands.strip_suffix(",%rsp")) {
+            ("push", _) => self.pushed += 8,
+            ("add", Some(number)) => {
+                assert!([0, constant(number)].contains(&self.given_back), "room given back in pieces: {instruction}");
+                self.given_back = constant(number);
+            }
+            ("sub", Some(number)) => self.taken = self.taken.max(constant(number)),
+            ("cmp", _) => {}
+            (_, Some(_)) => panic!("the stack pointer moves: {instruction}"),
+            ("call", _) => assert!(!operands.starts_with('*'), "a call through a pointer: {instruction}"),
+            // the table of a `match`, whose places are told from where it lies: no way out of the function
+            ("jmp", _) if operands.starts_with('*') => {
+                let place = self.last.starts_with("add ") && self.last.ends_with(&operands.replace('*', ","));
+                assert!(place, "a jump through a pointer: {instruction}");
+            }
+            _ => {
+                let known = !["enter", "leave"].contains(&name) && !name.starts_with("push") && !name.contains("call");
+                assert!(known, "the stack pointer moves: {instruction}");
+            }
+        }
+        self.last = instruction.to_string();
     }
+
+    fn frame(&self) -> usize {
+        self.pushed + self.given_back
+    }
+}
+
+/// A constant operand. A small one may be written as the negative of what is meant.
+fn constant(operand: &str) -> usize {
+    let number = operand.strip_prefix("$0x").unwrap_or_else(|| panic!("the stack pointer moves by {operand}"));
+    (u64::from_str_radix(number, 16).unwrap() as i64).unsigned_abs() as usize
 }
 
 /// The functions of the library.
@@ -55,22 +77,41 @@ impl Functions {
     pub fn read() -> Functions {
         let shown = Command::new("objdump").args(["-dr", "--no-show-raw-insn", ARCHIVE]).output().expect("objdump starts");
         assert!(shown.status.success(), "objdump {ARCHIVE}");
-        let (mut all, mut name, mut jumps) = (BTreeMap::<String, Function>::new(), String::new(), false);
+        let (mut all, mut name, mut goes) = (BTreeMap::<String, Function>::new(), String::new(), false);
         for line in String::from_utf8(shown.stdout).unwrap().lines() {
             let fields: Vec<&str> = line.split('\t').collect();
             if let Some((_, begun)) = line.strip_suffix(">:").and_then(|l| l.split_once(" <")) {
                 name = begun.to_string();
                 all.entry(name.clone()).or_default();
-            } else if let [_, instruction] = fields[..] {
-                jumps = instruction.starts_with("call ") || instruction.starts_with('j');
+                continue;
+            }
+            let called = if let [_, instruction] = fields[..] {
                 all.get_mut(&name).unwrap().take(instruction.trim_end());
-            } else if let ([.., to], true) = (&fields[..], jumps && line.contains("R_X86_64_")) {
+                let call = instruction.starts_with("call");
+                goes = call || instruction.starts_with('j');
+                // `<name>` is where it goes to, `<name+0x1>` a place in its own function: of a call the next instruction, and
+                // behind it stands the relocation that has the name; of a jump, `<name>` may be its own function's beginning
+                let to = instruction.trim_end().strip_suffix('>').and_then(|i| i.split_once('<')).map(|(_, to)| to);
+                to.filter(|to| goes && !to.contains('+') && (call || *to != name))
+            } else if let ([.., to], true) = (&fields[..], goes && line.contains("R_X86_64_")) {
                 let to = to.strip_suffix("-0x4").unwrap();
-                let to = to.strip_prefix(".text.").unwrap_or(to);
-                all.get_mut(&name).unwrap().calls.push(to.to_string());
+                Some(to.strip_prefix(".text.").unwrap_or(to))
+            } else {
+                None
+            };
+            if let Some(called) = called {
+                all.get_mut(&name).unwrap().calls.push(called.to_string());
             }
         }
+        for (name, f) in &all {
+            assert!(f.taken <= f.given_back, "{name} takes room on the stack and does not give it back");
+        }
         Functions(all)
+    }
+
+    /// The names of the exported calls.
+    pub fn exported(&self) -> impl Iterator<Item = &str> {
+        self.0.keys().map(String::as_str).filter(|name| name.starts_with("bihokura_"))
     }
 
     /// Bytes below the caller's frame, the deepest way down from a function; the way to it comes along.
@@ -83,7 +124,7 @@ impl Functions {
         way.push(name);
         let deepest = f.calls.iter().map(|called| self.below(called, way)).max();
         way.pop();
-        RETURN + f.pushed + f.room + f.beyond.max(deepest.unwrap_or(0))
+        RETURN + f.frame() + f.beyond.max(deepest.unwrap_or(0))
     }
 
     /// Bytes of stack that a call of this name takes at most.

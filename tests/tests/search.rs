@@ -1,5 +1,5 @@
 //! Document 02, Note 4, through the C interface: an entry comes to the lowest free slot of its table, whichever slots are free, and the
-//! entries of a batch to the lowest free slots by turns.
+//! entries of a batch, all of one table, to its free slots, rising.
 
 use bihokura_tests::answers::{outcome, Tally};
 use bihokura_tests::c;
