@@ -42,26 +42,30 @@ impl Function {
                 assert!([0, constant(number)].contains(&self.given_back), "room given back in pieces: {instruction}");
                 self.given_back = constant(number);
             }
-            ("sub", Some(number)) => self.taken = self.taken.max(constant(number)),
+            ("sub", Some(number)) => self.taken += constant(number),
             ("cmp", _) => {}
-            (_, Some(_)) => panic!("the stack pointer moves: {instruction}"),
             ("call", _) => assert!(!operands.starts_with('*'), "a call through a pointer: {instruction}"),
             // the table of a `match`, whose places are told from where it lies: no way out of the function
             ("jmp", _) if operands.starts_with('*') => {
                 let place = self.last.starts_with("add ") && self.last.ends_with(&operands.replace('*', ","));
                 assert!(place, "a jump through a pointer: {instruction}");
             }
-            _ => {
-                let known = !["enter", "leave"].contains(&name) && !name.starts_with("push") && !name.contains("call");
-                assert!(known, "the stack pointer moves: {instruction}");
-            }
+            _ => assert!(leaves_the_stack(name, operands), "the stack pointer may move: {instruction}"),
         }
         self.last = instruction.to_string();
     }
 
+    /// Where no room was taken, what is given back was pushed.
     fn frame(&self) -> usize {
-        self.pushed + self.given_back
+        self.pushed + if self.taken == 0 { 0 } else { self.given_back }
     }
+}
+
+/// No other instruction moves the stack pointer, keeps it in the frame pointer, or is another way to push or to call.
+fn leaves_the_stack(name: &str, operands: &str) -> bool {
+    let moves = ["%rsp", "%esp", "%rsp,%rbp"].iter().any(|end| operands.ends_with(end));
+    let other = ["(bad)", "bnd", "enter", "leave", "notrack"].contains(&name);
+    !moves && !other && !name.starts_with("push") && !name.contains("call")
 }
 
 /// A constant operand. A small one may be written as the negative of what is meant.
@@ -92,6 +96,8 @@ impl Functions {
                 // `<name>` is where it goes to, `<name+0x1>` a place in its own function: of a call the next instruction, and
                 // behind it stands the relocation that has the name; of a jump, `<name>` may be its own function's beginning
                 let to = instruction.trim_end().strip_suffix('>').and_then(|i| i.split_once('<')).map(|(_, to)| to);
+                let inside = to.and_then(|to| to.split_once('+')).is_none_or(|(own, _)| own == name);
+                assert!(inside || !goes, "{name} goes into another function: {instruction}");
                 to.filter(|to| goes && !to.contains('+') && (call || *to != name))
             } else if let ([.., to], true) = (&fields[..], goes && line.contains("R_X86_64_")) {
                 let to = to.strip_suffix("-0x4").unwrap();
@@ -129,7 +135,6 @@ impl Functions {
 
     /// Bytes of stack that a call of this name takes at most.
     pub fn most(&self, name: &str) -> usize {
-        assert!(self.0.contains_key(name), "{name} is not in the library");
         self.below(name, &mut vec![]) + if SEVEN.contains(&name) { 8 } else { 0 }
     }
 }
