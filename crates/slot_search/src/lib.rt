@@ -9,20 +9,20 @@ ghost use Rattle.entries.specs.Entries.{free_in, SlotsWithin, NoneFree, slot_fou
 use entries::Slot;
 use store::Words;
 
-// The first free one of the slots from `slot` on. A slot of `words` words is free if its first word is 0.
+// The first free one of the slots from `from` on. A slot of `words` words is free if its first word is 0.
 // Kept: the memory with the place of a table: a slice of the table's words would be no plainer, since each clause would have to be carried
 // back to the memory whose table it is.
 fn lowest_free(
     memory: &[u64],
     start: usize,
     words: usize,
-    slot: usize,
+    from: usize,
     slots: usize,
 ) -> Option<usize>
     requires { SlotsWithin memory.now start words slots }
-    ensures { result ≡ first_of (free_in memory.now start words) slot (slots - slot) }
+    ensures { result ≡ first_of (free_in memory.now start words) from (slots - from) }
 {
-    for i in slot..slots {
+    for i in from..slots {
         if memory[start + words * i] == 0 {
             return Some(i);
         }
