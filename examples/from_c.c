@@ -15,6 +15,11 @@ static void fail(const char *what, const char *why) {
     exit(1);
 }
 
+/* Why, and where in the block: no refusal that is of a place in it is told at byte 0. */
+static void print_refusal(FILE *file, unsigned refusal, unsigned position) {
+    fprintf(file, position == 0 ? "refused with %u\n" : "refused with %u at byte %u\n", refusal, position);
+}
+
 /* A memory with the registry of a file, which is opened by its first block; the others are admitted in batches. */
 static uint64_t *registry(FILE *file, const char *name) {
     static uint8_t blocks[65536];
@@ -26,21 +31,23 @@ static uint64_t *registry(FILE *file, const char *name) {
         fail("memory", strerror(errno));
     }
     size_t got = fread(blocks, 1, 512, file);
-    unsigned refusal = BIHOKURA_REFUSAL(bihokura_open(memory, words, blocks, got));
-    while (refusal == 0 && (got = fread(blocks, 1, sizeof blocks, file)) > 0) {
-        refusal = BIHOKURA_REFUSAL(bihokura_admit_batch(memory, words, blocks, got, answers, 256, &tally));
-        for (size_t i = 0; refusal == 0 && i < got / 512; i++) {
+    uint64_t answer = bihokura_open(memory, words, blocks, got);
+    while (BIHOKURA_REFUSAL(answer) == 0 && (got = fread(blocks, 1, sizeof blocks, file)) > 0) {
+        answer = bihokura_admit_batch(memory, words, blocks, got, answers, 256, &tally);
+        for (size_t i = 0; BIHOKURA_REFUSAL(answer) == 0 && i < got / 512; i++) {
             n++;
             if (answers[2 * i] != 0) {
-                printf("block %zu refused with %u\n", n, (unsigned)answers[2 * i]);
+                printf("block %zu ", n);
+                print_refusal(stdout, answers[2 * i], answers[2 * i + 1]);
             }
         }
     }
     if (ferror(file)) {
         fail(name, strerror(errno));
     }
-    if (refusal != 0) {
-        fprintf(stderr, "from_c: %s: refused with %u\n", name, refusal);
+    if (BIHOKURA_REFUSAL(answer) != 0) {
+        fprintf(stderr, "from_c: %s: ", name);
+        print_refusal(stderr, BIHOKURA_REFUSAL(answer), BIHOKURA_POSITION(answer));
         exit(1);
     }
     printf("blocks taken %llu, refused %llu\n", (unsigned long long)tally.taken, (unsigned long long)tally.refused);

@@ -16,19 +16,25 @@ for call in ("words", "open", "admit_batch", "counts", "findings", "audit", "wri
 words = library.bihokura_words()
 
 
+def refused(refusal, position):
+    """Why, and where in the block: no refusal that is of a place in it is told at byte 0."""
+    return f"refused with {refusal}" + (f" at byte {position}" if position else "")
+
+
 def registry(file):
     """A memory with the registry of a file, its containers, policies and pairs. The blocks behind the first come in batches."""
     memory, answers, tally = (u64 * words)(), (ctypes.c_uint16 * 256)(), (u64 * 2)()
     block = file.read(512)
-    refusal = library.bihokura_open(memory, size(words), block, size(len(block))) >> 56
-    while not refusal and (blocks := file.read(65536)):
+    answer = library.bihokura_open(memory, size(words), block, size(len(block)))
+    while not answer >> 56 and (blocks := file.read(65536)):
         lent = (blocks, size(len(blocks)), answers, size(len(answers)), tally)
-        refusal = library.bihokura_admit_batch(memory, size(words), *lent) >> 56
-        for number in answers[: len(blocks) // 256 : 2]:
-            if number and not refusal:
-                print("refused with", number)
-    if refusal:
-        sys.exit(f"refused with {refusal}")
+        answer = library.bihokura_admit_batch(memory, size(words), *lent)
+        used = answers[: len(blocks) // 512 * 2]
+        for refusal, position in zip(used[::2], used[1::2]):
+            if refusal and not answer >> 56:
+                print(refused(refusal, position))
+    if answer >> 56:
+        sys.exit(refused(answer >> 56, answer & 0xFFFF))
     print("blocks taken {}, refused {}".format(*tally))
     counts = library.bihokura_counts(memory, size(words))
     return memory, (counts & 0xFFFF, counts >> 16 & 0xFFFF, counts >> 32)

@@ -2,10 +2,16 @@
  *
  * Every function takes the memory as a pointer and its number of 64-bit words, a block or a buffer of blocks as a pointer and its
  * length in bytes, a list as a pointer and how many numbers it has room for, and answers one number. Its top byte is the refusal's
- * number of document 01 or, from 13 on, of 02, 0 where the call was accepted; a refused call answers nothing else and leaves
- * everything lent as it was. Below the top byte stands what the call answers. No function keeps a pointer. Memory of any size and
- * any contents may be handed over, and blocks, buffers and lists of any length; a pointer has to be valid for its length, and what
- * one call is lent may not overlap. Nothing is allocated; a call takes less than 80 KiB of stack (docs/LINKING.md).
+ * number of document 01 or, from 13 on, of 02, 0 where the call was accepted; below the top byte stands what the call answers. A
+ * refused call answers its number alone, but bihokura_open, bihokura_admit and bihokura_admit_batch answer the position at fault
+ * too, in the low 16 bits. It leaves everything lent as it was. No function keeps a pointer. Memory of any size and any contents
+ * may be handed over, and blocks, buffers and lists of any length; a pointer has to be valid for its length, and what one call is
+ * lent may not overlap. Nothing is allocated; a call takes less than 80 KiB of stack (docs/LINKING.md).
+ *
+ * The position is the byte of the block at which what is at fault begins: with 4 it is 510; with 6 the first field at fault, a
+ * count or the direction; with 7 the first key or value out of range (of settings whose system value does not go with the system
+ * key, 4); with 8 the first key that does not exceed the one before it; with 9 the lowest unused byte that is not zero; with any
+ * other number it is 0.
  */
 #ifndef BIHOKURA_H
 #define BIHOKURA_H
@@ -20,11 +26,11 @@ extern "C" {
 /* The number of words that the memory has to have. */
 uint64_t bihokura_words(void);
 
-/* Begins an empty registry under the settings of a block, whatever the memory held. Answers 0. */
+/* Begins an empty registry under the settings of a block, whatever the memory held. Answers 0, or the refusal and the position. */
 uint64_t bihokura_open(uint64_t *memory, size_t words, const uint8_t *block, size_t length);
 
 /* Admits the container or the policy of a block, and answers the slot that it took: of the table that byte 0 of the block names, 67
- * for containers and 80 for policies. The answer itself does not say which. */
+ * for containers and 80 for policies. The answer itself does not say which. Refused, it answers the refusal and the position. */
 uint64_t bihokura_admit(uint64_t *memory, size_t words, const uint8_t *block, size_t length);
 
 /* How many blocks were taken, and how many refused. */
@@ -33,9 +39,10 @@ struct bihokura_tally {
 };
 
 /* Admits up to 128 blocks, one after another in one pass: registry and answers are those of bihokura_admit for each. For each block
- * it puts two numbers into the list: 0 and the slot, or the refusal and 0. The rest of the list is kept. The tally goes up by the
- * blocks taken and by those refused; a count that has reached 2^64 - 1 stays there. Answers 0, also for no blocks at all. A length
- * over 65,536 or not a multiple of 512 is refused with 14, then a list of fewer than two numbers for each block with 13. */
+ * it puts two numbers into the list: 0 and the slot, or the refusal and the position. The rest of the list is kept. The tally goes
+ * up by the blocks taken and by those refused; a count that has reached 2^64 - 1 stays there. Answers 0, also for no blocks at all
+ * and for refused ones. A length over 65,536 or not a multiple of 512 is refused with 14, then a list of fewer than two numbers for
+ * each block with 13; their position is 0. */
 uint64_t bihokura_admit_batch(uint64_t *memory, size_t words, const uint8_t *blocks, size_t length, uint16_t *answers, size_t numbers,
                               struct bihokura_tally *tally);
 
@@ -75,8 +82,10 @@ uint64_t bihokura_write(const uint64_t *memory, size_t words, uint8_t *bytes, si
 }
 #endif
 
-/* The refusal's number of an answer, 0 where the call was accepted, and what an accepted call answered. */
+/* The refusal's number of an answer, 0 where the call was accepted; what an accepted call answered; and, where open, admit or
+ * admit_batch was refused, the position at fault. */
 #define BIHOKURA_REFUSAL(answer) ((unsigned)((answer) >> 56))
 #define BIHOKURA_VALUE(answer) ((answer) & 0x00ffffffffffffffu)
+#define BIHOKURA_POSITION(answer) ((unsigned)((answer) & 0xffffu))
 
 #endif

@@ -26,6 +26,7 @@ fn main() {
     println!("cargo:rustc-check-cfg=cfg(alone)");
     println!("cargo:rerun-if-changed={source}");
     println!("cargo:rerun-if-changed={here}/src/baseline/blocks.rs");
+    println!("cargo:rerun-if-changed={here}/src/refusal.rs");
 }
 
 /// fast_lister with the C library alone, without the standard library, which no binary of this package can do, since its panics would

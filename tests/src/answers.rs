@@ -1,22 +1,28 @@
 //! The numbers that the calls of the C interface answer, made and read: the refusal's number in the top byte, 0 where the call
-//! was accepted, and below it what the call answers.
+//! was accepted, and below it what the call answers, or the position at fault.
 
-const REFUSAL: u32 = 56;
+pub use crate::refusal::{refused, refused_at, Refusal};
 
-pub const fn refused(number: u64) -> u64 {
-    number << REFUSAL
-}
+const NUMBER: u32 = 56;
 
-/// What an accepted call answered, or the number of its refusal.
-pub fn outcome(answer: u64) -> Result<u64, u64> {
-    match answer >> REFUSAL {
+/// What an accepted call answered, or its refusal. Of a refusal all that is below the number is the position, so that no bit is lost.
+pub fn outcome(answer: u64) -> Result<u64, Refusal> {
+    match answer >> NUMBER {
         0 => Ok(answer),
-        number => Err(number),
+        number => Err(refused_at(number, (answer - (number << NUMBER)) as usize)),
     }
 }
 
-pub fn answer(outcome: Result<u64, u64>) -> u64 {
-    outcome.unwrap_or_else(refused)
+pub fn answer(outcome: Result<u64, Refusal>) -> u64 {
+    outcome.unwrap_or_else(|refusal| (refusal.number << NUMBER) + refusal.position as u64)
+}
+
+/// A block's two numbers in the list of a batch: 0 and the slot, or the refusal's number and the position.
+pub fn pair(outcome: Result<u64, Refusal>) -> [u16; 2] {
+    match outcome {
+        Ok(slot) => [0, slot as u16],
+        Err(refusal) => [refusal.number as u16, refusal.position as u16],
+    }
 }
 
 /// Kind, a and b.

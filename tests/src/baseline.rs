@@ -2,7 +2,7 @@
 //! test of the whole memory before each call, candidate sets from the entries. It is what the benchmarks compare with, by either
 //! of two sets of algorithms: `ByTrials`, those of the first release, and `ByLabels`, those of the register today.
 
-use crate::answers::{answer, code, counted, refused, Finding, Tally};
+use crate::answers::{answer, code, counted, pair, refused, refused_at, Finding, Refusal, Tally};
 use crate::layout::{self, *};
 
 mod blocks;
@@ -177,17 +177,15 @@ pub trait Algorithms {
 }
 
 pub fn open(m: &mut [u64], b: &[u8]) -> u64 {
-    if m.len() != WORDS {
-        return refused(1);
-    }
-    match read_settings(b) {
-        Ok(s) => {
-            m.fill(0);
-            (m[USER_KEY], m[SYSTEM_KEY], m[SYSTEM_VALUE]) = (s.user.into(), s.key.into(), s.value.into());
-            0
+    answer((|| {
+        if m.len() != WORDS {
+            return Err(refused(1));
         }
-        Err(n) => refused(n),
-    }
+        let s = read_settings(b)?;
+        m.fill(0);
+        (m[USER_KEY], m[SYSTEM_KEY], m[SYSTEM_VALUE]) = (s.user.into(), s.key.into(), s.value.into());
+        Ok(0)
+    })())
 }
 
 // ---- by the rules, as both do it
@@ -280,12 +278,12 @@ fn free_from(m: &[u64], (start, words, slots): Table, from: usize) -> Option<usi
     (from..slots).find(|i| m[start + words * i] == 0)
 }
 
-fn tested(m: &[u64]) -> Result<(), u64> {
+fn tested(m: &[u64]) -> Result<(), Refusal> {
     if m.len() != WORDS {
-        return Err(1);
+        return Err(refused(1));
     }
     if !well_formed(m) {
-        return Err(2);
+        return Err(refused(2));
     }
     Ok(())
 }
@@ -316,7 +314,7 @@ pub fn admit<A: Algorithms>(m: &mut [u64], b: &[u8]) -> u64 {
             Entry::Container(_) => (CONTAINER_TABLE, A::container_admitted),
             Entry::Policy(..) => (POLICY_TABLE, A::policy_admitted),
         };
-        let i = free_from(m, table, 0).ok_or(12u64)?;
+        let i = free_from(m, table, 0).ok_or(refused(12))?;
         store(m, i, &entry);
         admitted(m, i);
         Ok(i as u64)
@@ -328,9 +326,9 @@ pub fn admit_batch<A: Algorithms>(m: &mut [u64], blocks: &[u8], numbers: &mut [u
         tested(m)?;
         let (blocks, rest) = blocks.as_chunks();
         if blocks.len() > 128 || !rest.is_empty() {
-            return Err(14);
+            return Err(refused(14));
         }
-        let numbers = numbers.as_chunks_mut().0.get_mut(..blocks.len()).ok_or(13u64)?;
+        let numbers = numbers.as_chunks_mut().0.get_mut(..blocks.len()).ok_or(refused(13))?;
         A::batch(m, blocks, numbers);
         let taken = numbers.iter().filter(|n| n[0] == 0).count();
         tally.taken = tally.taken.saturating_add(taken as u64);
@@ -339,12 +337,12 @@ pub fn admit_batch<A: Algorithms>(m: &mut [u64], blocks: &[u8], numbers: &mut [u
     })())
 }
 
-fn slot(m: &[u64], (start, words, slots): Table, i: u64) -> Result<usize, u64> {
+fn slot(m: &[u64], (start, words, slots): Table, i: u64) -> Result<usize, Refusal> {
     if i >= slots as u64 {
-        return Err(10);
+        return Err(refused(10));
     }
     if m[start + words * i as usize] == 0 {
-        return Err(11);
+        return Err(refused(11));
     }
     Ok(i as usize)
 }
@@ -378,7 +376,7 @@ pub fn reaches(m: &[u64], a: u64, b: u64) -> u64 {
     answer((|| {
         tested(m)?;
         if a >= CONTAINER_SLOTS as u64 || b >= CONTAINER_SLOTS as u64 {
-            return Err(10);
+            return Err(refused(10));
         }
         let (a, b) = (slot(m, CONTAINER_TABLE, a)?, slot(m, CONTAINER_TABLE, b)?);
         Ok(u64::from(has(&row_at(m, a), b)))
@@ -412,8 +410,8 @@ pub fn counts(m: &[u64]) -> u64 {
 }
 
 pub fn rebuild<A: Algorithms>(m: &mut [u64]) -> u64 {
-    if let Err(n) = tested(m) {
-        return refused(n);
+    if let Err(refusal) = tested(m) {
+        return answer(Err(refusal));
     }
     let mut s = Sets::new(m);
     A::sets(m, &mut s);
@@ -426,8 +424,8 @@ pub fn rebuild<A: Algorithms>(m: &mut [u64]) -> u64 {
 }
 
 pub fn audit<A: Algorithms>(m: &[u64]) -> u64 {
-    if let Err(n) = tested(m) {
-        return refused(n);
+    if let Err(refusal) = tested(m) {
+        return answer(Err(refusal));
     }
     let mut s = Sets::new(m);
     A::sets(m, &mut s);
@@ -628,7 +626,7 @@ pub fn write(m: &[u64], bytes: &mut [u8]) -> u64 {
         let containers = m[CONTAINERS..POLICIES].as_chunks().0.iter().filter(|slot| slot[0] != 0);
         let policies = m[POLICIES..ROWS].as_chunks().0.iter().filter(|slot| slot[0] != 0);
         let length = 512 * (1 + containers.clone().count() + policies.clone().count());
-        let mut blocks = bytes.get_mut(..length).ok_or(13u64)?.as_chunks_mut().0.iter_mut();
+        let mut blocks = bytes.get_mut(..length).ok_or(refused(13))?.as_chunks_mut().0.iter_mut();
         put_settings(blocks.next().unwrap(), m);
         containers.zip(&mut blocks).for_each(|(slot, block)| put_container(block, slot));
         policies.zip(&mut blocks).for_each(|(slot, block)| put_policy(block, slot));

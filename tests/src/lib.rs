@@ -12,6 +12,7 @@ pub mod layout;
 pub mod process;
 pub mod random;
 pub mod reference;
+pub mod refusal;
 pub mod registries;
 pub mod sheet;
 pub mod sides;

@@ -1,7 +1,7 @@
 //! A register written separately from documents 01 and 02, for comparison: plain vectors, every rule by its sentence, no thought of
 //! speed.
 
-use crate::answers::{answer, code, counted, Finding, Tally};
+use crate::answers::{answer, code, counted, pair, refused, refused_at, Finding, Refusal, Tally};
 use crate::bytes::{self, Pair};
 use crate::layout::{self, *};
 
@@ -83,86 +83,105 @@ fn number(block: &[u8], at: usize) -> u64 {
     u64::from(block[at]) * 256 + u64::from(block[at + 1])
 }
 
-fn frame(block: &[u8], kinds: &[u8]) -> Result<(), u64> {
+fn is_key(n: u64) -> bool {
+    (1..=64).contains(&n)
+}
+
+fn is_value(n: u64) -> bool {
+    (1..=65535).contains(&n)
+}
+
+/// Bytes of a block in their order, each with whether what begins there is as it must be: the first that is not is at fault
+/// (document 02, Note 5).
+fn check(refusal: u64, bytes: impl IntoIterator<Item = (usize, bool)>) -> Result<(), Refusal> {
+    match bytes.into_iter().find(|(_, right)| !right) {
+        Some((position, _)) => Err(refused_at(refusal, position)),
+        None => Ok(()),
+    }
+}
+
+fn check_zeros(block: &[u8], unused: impl IntoIterator<Item = usize>) -> Result<(), Refusal> {
+    check(9, unused.into_iter().map(|at| (at, block[at] == 0)))
+}
+
+fn check_frame(block: &[u8], kinds: &[u8]) -> Result<(), Refusal> {
     if block.len() != 512 {
-        return Err(3);
+        return Err(refused(3));
     }
     let sum: u64 = (0..510).map(|i| u64::from(block[i]) * (i as u64 + 1)).sum();
-    if number(block, 510) != sum % 65521 {
-        return Err(4);
-    }
-    if !kinds.contains(&block[0]) {
-        return Err(5);
-    }
-    Ok(())
+    check(4, [(510, number(block, 510) == sum % 65521)])?;
+    check(5, [(0, kinds.contains(&block[0]))])
 }
 
-pub fn valid_settings(s: &Settings) -> bool {
-    (1..=64).contains(&s.user_key)
-        && if s.system_key == 0 { s.system_value == 0 } else { s.system_key <= 64 && (1..=65535).contains(&s.system_value) }
+/// The fields of settings, by the byte at which they begin. Where value and system key do not go together, the value is at fault.
+fn settings_fields(s: &Settings) -> [(usize, bool); 3] {
+    let value = if s.system_key == 0 { s.system_value == 0 } else { is_value(s.system_value) };
+    [(1, is_key(s.user_key)), (2, s.system_key == 0 || is_key(s.system_key)), (4, value)]
 }
 
-pub fn read_settings(block: &[u8]) -> Result<Settings, u64> {
-    frame(block, &[83])?;
+pub fn read_settings(block: &[u8]) -> Result<Settings, Refusal> {
+    check_frame(block, &[83])?;
     let s = Settings { user_key: u64::from(block[1]), system_key: u64::from(block[2]), system_value: number(block, 4) };
-    if !valid_settings(&s) {
-        return Err(7);
-    }
-    if block[3] != 0 || block[6..510].iter().any(|b| *b != 0) {
-        return Err(9);
-    }
+    check(7, settings_fields(&s))?;
+    check_zeros(block, [3].into_iter().chain(6..510))?;
     Ok(s)
 }
 
-fn in_range(l: &Label) -> bool {
-    (1..=64).contains(&l.key) && (1..=65535).contains(&l.value)
+/// The bytes at which n labels begin, the first of them here.
+fn places(first: usize, n: usize) -> Vec<usize> {
+    (0..n).map(|k| first + 4 * k).collect()
 }
 
-fn rising(labels: &[Label]) -> bool {
-    labels.windows(2).all(|w| w[0].key < w[1].key)
+/// The keys and values of these parts, in the order of the bytes; then, part by part, that each key exceeds the one before it.
+fn check_parts(block: &[u8], parts: &[&Vec<usize>]) -> Result<(), Refusal> {
+    let key = |at: usize| number(block, at);
+    let labels = parts.iter().flat_map(|part| part.iter());
+    check(7, labels.flat_map(|at| [(*at, is_key(key(*at))), (at + 2, is_value(number(block, at + 2)))]))?;
+    let neighbours = parts.iter().flat_map(|part| part.windows(2));
+    check(8, neighbours.map(|w| (w[1], key(w[0]) < key(w[1]))))
 }
 
-pub fn valid_labels(labels: &[Label], limit: usize) -> bool {
-    labels.len() <= limit && labels.iter().all(in_range) && rising(labels)
+fn labels(block: &[u8], part: &[usize]) -> Vec<Label> {
+    part.iter().map(|at| Label { key: number(block, *at), value: number(block, at + 2) }).collect()
 }
 
-fn labels(block: &[u8], at: usize, n: usize) -> Vec<Label> {
-    (0..n).map(|k| Label { key: number(block, at + 4 * k), value: number(block, at + 4 * k + 2) }).collect()
+fn read_container(block: &[u8]) -> Result<Vec<Label>, Refusal> {
+    let n = usize::from(block[1]);
+    check(6, [(1, n <= 8)])?;
+    let all = places(4, n);
+    check_parts(block, &[&all])?;
+    check_zeros(block, [2, 3].into_iter().chain(4 + 4 * n..510))?;
+    Ok(labels(block, &all))
 }
 
-pub fn read_entry(block: &[u8]) -> Result<Entry, u64> {
-    frame(block, &[67, 80])?;
-    let (lists, end, extra, entry) = if block[0] == 67 {
-        let n = usize::from(block[1]);
-        if n > 8 {
-            return Err(6);
-        }
-        let list = labels(block, 4, n);
-        (vec![list.clone()], 4 + 4 * n, block[2..4].to_vec(), Entry::Container(list))
+fn read_policy(block: &[u8]) -> Result<Policy, Refusal> {
+    let (m, n) = (usize::from(block[2]), usize::from(block[3]));
+    check(6, [(1, [1, 2].contains(&block[1])), (2, m <= 4), (3, n <= 4)])?;
+    let (select, allow) = (places(4, m), places(4 + 4 * m, n));
+    check_parts(block, &[&select, &allow])?;
+    check_zeros(block, 4 + 4 * (m + n)..510)?;
+    let direction = if block[1] == 1 { Direction::Ingress } else { Direction::Egress };
+    Ok(Policy { direction, select: labels(block, &select), allow: labels(block, &allow) })
+}
+
+pub fn read_entry(block: &[u8]) -> Result<Entry, Refusal> {
+    check_frame(block, &[67, 80])?;
+    if block[0] == 67 {
+        read_container(block).map(Entry::Container)
     } else {
-        let (m, n) = (usize::from(block[2]), usize::from(block[3]));
-        let direction = match block[1] {
-            1 => Direction::Ingress,
-            2 => Direction::Egress,
-            _ => return Err(6),
-        };
-        if m > 4 || n > 4 {
-            return Err(6);
-        }
-        let (select, allow) = (labels(block, 4, m), labels(block, 4 + 4 * m, n));
-        let entry = Entry::Policy(Policy { direction, select: select.clone(), allow: allow.clone() });
-        (vec![select, allow], 4 + 4 * (m + n), Vec::new(), entry)
-    };
-    if !lists.iter().flatten().all(in_range) {
-        return Err(7);
+        read_policy(block).map(Entry::Policy)
     }
-    if !lists.iter().all(|l| rising(l)) {
-        return Err(8);
-    }
-    if extra.iter().chain(&block[end..510]).any(|b| *b != 0) {
-        return Err(9);
-    }
-    Ok(entry)
+}
+
+// A well-formed memory holds settings and lists of labels that a block may have.
+
+fn valid_settings(s: &Settings) -> bool {
+    settings_fields(s).iter().all(|(_, right)| *right)
+}
+
+fn valid_labels(labels: &[Label], limit: usize) -> bool {
+    let rising = labels.windows(2).all(|w| w[0].key < w[1].key);
+    labels.len() <= limit && labels.iter().all(|l| is_key(l.key) && is_value(l.value)) && rising
 }
 
 // ---- the rules
@@ -496,74 +515,72 @@ pub fn step(memory: &[u64], call: &Call) -> Left {
     let mut lent = call.lent();
     match changed(memory, call, &mut lent) {
         Ok((r, value)) => Left { memory: r.encode(), lent, answer: answer(Ok(value)) },
-        Err(n) => Left { memory: memory.to_vec(), lent, answer: answer(Err(n)) },
+        Err(refusal) => Left { memory: memory.to_vec(), lent, answer: answer(Err(refusal)) },
     }
 }
 
 /// The register that an accepted call leaves, and the value that it answers.
-fn changed(memory: &[u64], call: &Call, lent: &mut Lent) -> Result<(Register, u64), u64> {
+fn changed(memory: &[u64], call: &Call, lent: &mut Lent) -> Result<(Register, u64), Refusal> {
     if memory.len() != WORDS {
-        return Err(1);
+        return Err(refused(1));
     }
     if let Call::Open(block) = call {
         return Ok((Register::opened(read_settings(block)?), 0));
     }
-    let mut r = Register::decode(memory).ok_or(2u64)?;
+    let mut r = Register::decode(memory).ok_or(refused(2))?;
     let value = run(&mut r, call, lent)?;
     Ok((r, value))
 }
 
 /// The slot that the entry of a block takes.
-fn admit(r: &mut Register, block: &[u8]) -> Result<usize, u64> {
+fn admit(r: &mut Register, block: &[u8]) -> Result<u64, Refusal> {
     match read_entry(block)? {
         Entry::Container(x) => {
-            let c = r.containers.iter().position(|s| s.is_none()).ok_or(12u64)?;
+            let c = r.containers.iter().position(|s| s.is_none()).ok_or(refused(12))?;
             r.containers[c] = Some(x);
             r.container_changed(c);
-            Ok(c)
+            Ok(c as u64)
         }
         Entry::Policy(p) => {
-            let q = r.policies.iter().position(|s| s.is_none()).ok_or(12u64)?;
+            let q = r.policies.iter().position(|s| s.is_none()).ok_or(refused(12))?;
             r.policies[q] = Some(p.clone());
             r.policy_changed(q, &p);
-            Ok(q)
+            Ok(q as u64)
         }
     }
 }
 
 /// The blocks of a batch one after another, each with its two numbers and its count in the tally.
-fn admit_batch(r: &mut Register, bytes: &[u8], numbers: &mut [u16], tally: &mut Tally) -> Result<u64, u64> {
+fn admit_batch(r: &mut Register, bytes: &[u8], numbers: &mut [u16], tally: &mut Tally) -> Result<u64, Refusal> {
     if bytes.len() > 65_536 || !bytes.len().is_multiple_of(512) {
-        return Err(14);
+        return Err(refused(14));
     }
     if numbers.len() < 2 * (bytes.len() / 512) {
-        return Err(13);
+        return Err(refused(13));
     }
     for (i, block) in bytes.chunks(512).enumerate() {
-        let (first, second, count) = match admit(r, block) {
-            Ok(slot) => (0, slot as u16, &mut tally.taken),
-            Err(n) => (n as u16, 0, &mut tally.refused),
-        };
-        (numbers[2 * i], numbers[2 * i + 1]) = (first, second);
+        let admitted = admit(r, block);
+        numbers[2 * i..2 * i + 2].copy_from_slice(&pair(admitted));
+        let count = if admitted.is_ok() { &mut tally.taken } else { &mut tally.refused };
         *count = count.saturating_add(1);
     }
     Ok(0)
 }
 
-fn slot(table: usize, stands: impl Fn(usize) -> bool, i: u64) -> Result<usize, u64> {
+fn slot(table: usize, stands: impl Fn(usize) -> bool, i: u64) -> Result<usize, Refusal> {
     if i >= table as u64 {
-        return Err(10);
+        return Err(refused(10));
     }
     if !stands(i as usize) {
-        return Err(11);
+        return Err(refused(11));
     }
     Ok(i as usize)
 }
 
-fn run(r: &mut Register, call: &Call, lent: &mut Lent) -> Result<u64, u64> {
+fn run(r: &mut Register, call: &Call, lent: &mut Lent) -> Result<u64, Refusal> {
     match call {
         Call::Open(_) => unreachable!(),
-        Call::Admit(block) => admit(r, block).map(|slot| slot as u64),
+        Call::Admit(block) => admit(r, block),
         Call::RemoveContainer(i) => {
             let c = slot(CONTAINER_SLOTS, |c| r.containers[c].is_some(), *i)?;
             r.containers[c] = None;
@@ -578,7 +595,7 @@ fn run(r: &mut Register, call: &Call, lent: &mut Lent) -> Result<u64, u64> {
         }
         Call::Reaches(a, b) => {
             if [a, b].into_iter().any(|c| *c >= CONTAINER_SLOTS as u64) {
-                return Err(10);
+                return Err(refused(10));
             }
             let stands = |c: usize| r.containers[c].is_some();
             let (a, b) = (slot(CONTAINER_SLOTS, stands, *a)?, slot(CONTAINER_SLOTS, stands, *b)?);
@@ -604,7 +621,7 @@ fn run(r: &mut Register, call: &Call, lent: &mut Lent) -> Result<u64, u64> {
         Call::Write(_) => {
             let file = r.file();
             if lent.bytes.len() < file.len() {
-                return Err(13);
+                return Err(refused(13));
             }
             lent.bytes[..file.len()].copy_from_slice(&file);
             Ok(file.len() as u64)

@@ -1,5 +1,6 @@
-//! What lister has to write, by document 01, and inputs for it.
+//! What lister has to write, by documents 01 and 02, and inputs for it.
 
+use crate::answers::{refused, Refusal};
 use crate::bytes::{self, container, policy, settings, EGRESS, INGRESS};
 use crate::cases;
 use crate::random::Random;
@@ -7,10 +8,10 @@ use crate::reference::{read_entry, read_settings, Entry, Register};
 use std::fmt::Write;
 
 /// The entry at the lowest free slot of its table; the bits come later.
-fn put(r: &mut Register, block: &[u8]) -> Result<(), u64> {
+fn put(r: &mut Register, block: &[u8]) -> Result<(), Refusal> {
     match read_entry(block)? {
-        Entry::Container(x) => *r.containers.iter_mut().find(|slot| slot.is_none()).ok_or(12u64)? = Some(x),
-        Entry::Policy(p) => *r.policies.iter_mut().find(|slot| slot.is_none()).ok_or(12u64)? = Some(p),
+        Entry::Container(x) => *r.containers.iter_mut().find(|slot| slot.is_none()).ok_or(refused(12))? = Some(x),
+        Entry::Policy(p) => *r.policies.iter_mut().find(|slot| slot.is_none()).ok_or(refused(12))? = Some(p),
     }
     Ok(())
 }
@@ -20,12 +21,12 @@ pub fn expected(input: &[u8]) -> String {
     let mut blocks = input.chunks(512);
     let mut r = match read_settings(blocks.next().unwrap_or(&[])) {
         Ok(settings) => Register::opened(settings),
-        Err(n) => return format!("REFUSED 1 {n}\n"),
+        Err(Refusal { number, position }) => return format!("REFUSED 1 {number} {position}\n"),
     };
     let mut written = String::new();
     for (i, block) in blocks.enumerate() {
-        if let Err(n) = put(&mut r, block) {
-            writeln!(written, "REFUSED {} {n}", i + 2).unwrap();
+        if let Err(Refusal { number, position }) = put(&mut r, block) {
+            writeln!(written, "REFUSED {} {number} {position}", i + 2).unwrap();
         }
     }
     r.rebuild();

@@ -1,7 +1,7 @@
 //! The stack that a call takes: words below the stack pointer are painted, and after the call the lowest that has another colour
 //! is looked for.
 
-use crate::answers::{outcome, Tally};
+use crate::answers::{outcome, refused, Refusal, Tally};
 use crate::c;
 use crate::registries::{self, settings, Registry, FILE};
 use std::arch::asm;
@@ -42,7 +42,7 @@ fn taken(m: &mut [u64], call: Work) -> (usize, u64) {
 pub fn calls(r: &Registry) -> Vec<(&'static str, usize)> {
     let (full, opening, mut list, mut file) = (r.memory(), settings(), vec![0; 256], vec![0; FILE]);
     let (c, q) = (registries::containers().next().unwrap(), registries::policies().next().unwrap());
-    let with = |from: &[u64], refusal: Option<u64>, call: Work| {
+    let with = |from: &[u64], refusal: Option<Refusal>, call: Work| {
         let (bytes, answer) = taken(&mut from.to_vec(), call);
         assert_eq!(outcome(answer).err(), refusal, "registry {}", r.name);
         bytes
@@ -63,7 +63,7 @@ pub fn calls(r: &Registry) -> Vec<(&'static str, usize)> {
         ("bihokura_open", accepted(&mut |m| c::open(m, &opening))),
         ("bihokura_admit, a container", with(&no_container, None, &mut |m| c::admit(m, &r.containers[c]))),
         ("bihokura_admit, a policy", with(&no_policy, None, &mut |m| c::admit(m, &r.policies[q]))),
-        ("bihokura_admit, refused with 12", with(&full, Some(12), &mut |m| c::admit(m, &r.containers[c]))),
+        ("bihokura_admit, refused with 12", with(&full, Some(refused(12)), &mut |m| c::admit(m, &r.containers[c]))),
         ("bihokura_remove_container", accepted(&mut |m| c::remove_container(m, c as u64))),
         ("bihokura_remove_policy", accepted(&mut |m| c::remove_policy(m, q as u64))),
         ("bihokura_reaches", accepted(&mut |m| c::reaches(m, 0, 1))),

@@ -1,7 +1,7 @@
 //! A batch of admissions over the C interface: against the reference, which admits its blocks one after another, and against single
 //! admissions through C.
 
-use bihokura_tests::answers::{outcome, Tally};
+use bihokura_tests::answers::{outcome, pair, refused, Refusal, Tally};
 use bihokura_tests::bytes::{container, policy, sealed, settings, spoiled, EGRESS, INGRESS};
 use bihokura_tests::cases::{batch, disordered, flip, memory, tally, OTHER_SIZES};
 use bihokura_tests::layout::{CONTAINER_SLOTS, POLICY_SLOTS, WORDS};
@@ -14,7 +14,7 @@ use std::collections::BTreeMap;
 
 /// The call lent blocks, a list and a tally that stand between others does what the reference does, and writes to nothing around
 /// them. The two numbers of each block, if it was accepted, or its refusal.
-fn check_between(r: &mut Random, m: &[u64], bytes: &[u8], room: usize) -> Result<Vec<u16>, u64> {
+fn check_between(r: &mut Random, m: &[u64], bytes: &[u8], room: usize) -> Result<Vec<u16>, Refusal> {
     let lent_bytes = [&[7][..], bytes].concat();
     let (front, list, back) = (r.numbers(7), r.numbers(room), r.numbers(300));
     let (mut numbers, tallies) = ([&front[..], &list, &back].concat(), [tally(r), tally(r), tally(r)]);
@@ -34,16 +34,10 @@ fn check_as_single(r: &mut Random, m: &[u64], bytes: &[u8]) {
     let (mut single, mut numbers, mut count) = (m.to_vec(), vec![], tally(r));
     let call = Call::AdmitBatch(bytes.to_vec(), r.numbers(bytes.len() / 256 + 5), count);
     for block in bytes.chunks(512) {
-        match outcome(c::admit(&mut single, block)) {
-            Ok(slot) => {
-                numbers.extend([0, slot as u16]);
-                count.taken = count.taken.saturating_add(1);
-            }
-            Err(n) => {
-                numbers.extend([n as u16, 0]);
-                count.refused = count.refused.saturating_add(1);
-            }
-        }
+        let admitted = outcome(c::admit(&mut single, block));
+        numbers.extend(pair(admitted));
+        let of = if admitted.is_ok() { &mut count.taken } else { &mut count.refused };
+        *of = of.saturating_add(1);
     }
     numbers.extend(&call.lent().numbers[numbers.len()..]);
     let left = on_c(m, &call);
@@ -105,11 +99,11 @@ fn a_batch_in_two() {
 // ---- refused batches
 
 /// The refusal of a well-formed memory's batch: 14 comes before 13.
-fn refusal(length: usize, room: usize) -> Result<(), u64> {
+fn refusal(length: usize, room: usize) -> Result<(), Refusal> {
     if length > 65_536 || !length.is_multiple_of(512) {
-        Err(14)
+        Err(refused(14))
     } else if room < length / 256 {
-        Err(13)
+        Err(refused(13))
     } else {
         Ok(())
     }
@@ -144,8 +138,8 @@ fn memories_of_each_sort() {
             for (length, room) in [(0, 0), (1536, 6), (1536, 9), (1536, 5), (1535, 6), (1535, 0), (0, 3)] {
                 let found = check_between(r, m, &bytes[..length], room).map(|_| ());
                 let formed = Register::decode(m).is_some();
-                let expected = if m.len() != WORDS { Err(1) } else { Ok(()) };
-                let expected = expected.and(if formed { Ok(()) } else { Err(2) }).and(refusal(length, room));
+                let expected = if m.len() != WORDS { Err(refused(1)) } else { Ok(()) };
+                let expected = expected.and(if formed { Ok(()) } else { Err(refused(2)) }).and(refusal(length, room));
                 assert_eq!(found, expected, "{} words, {length} bytes, a list of {room}", m.len());
                 check(&BASELINES, m, &[Call::AdmitBatch(bytes[..length].to_vec(), r.numbers(room), tally(r))]);
                 *met.entry(found.err()).or_insert(0) += 1;
@@ -157,37 +151,38 @@ fn memories_of_each_sort() {
 
 // ---- refused blocks
 
-/// Blocks that are refused, with each number from 4 to 9. With 3 none can be: the blocks of a batch have 512 bytes each.
-fn faulty() -> Vec<(u16, Vec<u8>)> {
+/// Blocks that are refused, with each number from 4 to 9, and the position at fault. With 3 none can be: the blocks of a batch have
+/// 512 bytes each.
+fn faulty() -> Vec<([u16; 2], Vec<u8>)> {
     let (one, two) = ([(1, 1)], [(2, 1), (1, 1)]);
     let changed = |mut block: Vec<u8>, at: usize| {
         block[at] ^= 1;
         sealed(&block[..510])
     };
     vec![
-        (4, spoiled(container(&one))),
-        (4, vec![255; 512]),
-        (5, settings(1, 0, 0)),
-        (5, vec![0; 512]),
-        (6, sealed(&[67, 9])),
-        (6, policy(3, &one, &[])),
-        (6, policy(0, &one, &[])),
-        (6, sealed(&[80, 1, 5, 0])),
-        (6, sealed(&[80, 1, 0, 5])),
-        (7, container(&[(65, 1)])),
-        (7, container(&[(1, 0)])),
-        (7, policy(INGRESS, &[(0, 1)], &[])),
-        (7, policy(INGRESS, &one, &[(256, 1)])),
-        (8, container(&two)),
-        (8, policy(EGRESS, &two, &[])),
-        (8, policy(EGRESS, &one, &[(3, 1), (3, 2)])),
-        (9, changed(container(&one), 2)),
-        (9, changed(container(&one), 8)),
-        (9, changed(container(&one), 36)),
-        (9, changed(policy(EGRESS, &one, &one), 12)),
-        (9, changed(policy(EGRESS, &one, &one), 35)),
-        (9, changed(policy(EGRESS, &one, &one), 508)),
-        (9, changed(policy(EGRESS, &one, &one), 509)),
+        ([4, 510], spoiled(container(&one))),
+        ([4, 510], vec![255; 512]),
+        ([5, 0], settings(1, 0, 0)),
+        ([5, 0], vec![0; 512]),
+        ([6, 1], sealed(&[67, 9])),
+        ([6, 1], policy(3, &one, &[])),
+        ([6, 1], policy(0, &one, &[])),
+        ([6, 2], sealed(&[80, 1, 5, 0])),
+        ([6, 3], sealed(&[80, 1, 0, 5])),
+        ([7, 4], container(&[(65, 1)])),
+        ([7, 6], container(&[(1, 0)])),
+        ([7, 4], policy(INGRESS, &[(0, 1)], &[])),
+        ([7, 8], policy(INGRESS, &one, &[(256, 1)])),
+        ([8, 8], container(&two)),
+        ([8, 8], policy(EGRESS, &two, &[])),
+        ([8, 12], policy(EGRESS, &one, &[(3, 1), (3, 2)])),
+        ([9, 2], changed(container(&one), 2)),
+        ([9, 8], changed(container(&one), 8)),
+        ([9, 36], changed(container(&one), 36)),
+        ([9, 12], changed(policy(EGRESS, &one, &one), 12)),
+        ([9, 35], changed(policy(EGRESS, &one, &one), 35)),
+        ([9, 508], changed(policy(EGRESS, &one, &one), 508)),
+        ([9, 509], changed(policy(EGRESS, &one, &one), 509)),
     ]
 }
 
@@ -199,9 +194,8 @@ fn each_refusal_of_a_block() {
     assert_eq!(c::open(&mut m, &settings(1, 2, 9)), 0);
     let good = [container(&[(1, 1)]), policy(EGRESS, &[(1, 1)], &[(1, 2)]), container(&[(1, 2)])];
     let taken = [[0, 0], [0, 0], [0, 1]];
-    for (number, bad) in faulty() {
+    for (refused, bad) in faulty() {
         let blocks = [&good[0], &bad, &good[1], &bad, &bad, &good[2]].map(|b| &b[..]).concat();
-        let refused = [number, 0];
         let expected = [taken[0], refused, taken[1], refused, refused, taken[2]].concat();
         assert_eq!(check_batch(&mut r, &m, &blocks), expected);
         assert_eq!(check_batch(&mut r, &m, &bad), refused);
@@ -211,7 +205,7 @@ fn each_refusal_of_a_block() {
     }
     let all = faulty();
     let blocks: Vec<u8> = all.iter().flat_map(|(_, b)| [&b[..], &good[0]].concat()).collect();
-    let expected: Vec<u16> = all.iter().zip(0..).flat_map(|((number, _), i)| [*number, 0, 0, i]).collect();
+    let expected: Vec<u16> = all.iter().zip(0..).flat_map(|(([number, position], _), i)| [*number, *position, 0, i]).collect();
     assert_eq!(check_batch(&mut r, &m, &blocks), expected);
 }
 
@@ -232,7 +226,7 @@ fn tables_that_fill_up() {
     let (x, p, bad) = (container(&[(1, 3), (3, 2)]), policy(EGRESS, &[(1, 3)], &[(3, 2)]), spoiled(container(&[])));
     let mixed = [&x, &bad, &p, &x, &p, &x, &p, &p, &bad, &x].map(|b| &b[..]).concat();
     // both are full
-    assert_eq!(check_batch(&mut r, &m, &mixed), [12, 0, 4, 0, 12, 0, 12, 0, 12, 0, 12, 0, 12, 0, 12, 0, 4, 0, 12, 0]);
+    assert_eq!(check_batch(&mut r, &m, &mixed), [12, 0, 4, 510, 12, 0, 12, 0, 12, 0, 12, 0, 12, 0, 12, 0, 4, 510, 12, 0]);
     assert_eq!(check_batch(&mut r, &m, &x.repeat(128)), [12, 0].repeat(128));
     for slot in [255, 17] {
         assert_eq!(c::remove_container(&mut m, slot), 0);
@@ -241,7 +235,7 @@ fn tables_that_fill_up() {
         assert_eq!(c::remove_policy(&mut m, slot), 0);
     }
     for m in [&m, &disordered(&mut r, &m)] {
-        assert_eq!(check_batch(&mut r, m, &mixed), [0, 17, 4, 0, 0, 0, 0, 255, 0, 64, 12, 0, 0, 127, 12, 0, 4, 0, 12, 0]);
+        assert_eq!(check_batch(&mut r, m, &mixed), [0, 17, 4, 510, 0, 0, 0, 255, 0, 64, 12, 0, 0, 127, 12, 0, 4, 510, 12, 0]);
     }
     // a full table of policies, and 126 containers come
     let slots: Vec<u64> = (0..126).map(|i| 2 * i).collect();

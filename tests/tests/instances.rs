@@ -1,5 +1,5 @@
 //! What the program `instances` writes, worked out by the separately written register: document 01's instances without a star,
-//! each refusal number among them. A line is the instance's number, the refusal and the answer.
+//! each refusal number among them. A line is the instance's number, the refusal or 0, and the answer or the position.
 
 use bihokura_tests::answers::{counts, outcome, Tally};
 use bihokura_tests::bytes::{container, policy, sealed, settings, spoiled, Pair, EGRESS, INGRESS};
@@ -22,7 +22,7 @@ impl Run {
                 [containers, policies, pairs].into_iter().for_each(|n| self.write(case, 0, n));
             }
             Ok(value) => self.write(case, 0, value),
-            Err(refusal) => self.write(case, refusal, 0),
+            Err(refusal) => self.write(case, refusal.number, refusal.position as u64),
         }
     }
 

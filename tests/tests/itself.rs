@@ -39,7 +39,8 @@ fn a_standing_container_reaches_itself() {
             m = on_c(&m, &call).memory;
             for a in 0..CONTAINER_SLOTS {
                 let stands = m[layout::container(a)] != 0;
-                assert_eq!(c::reaches(&m, a as u64, a as u64), if stands { 1 } else { refused(11) }, "{a} after {call:?}");
+                let expected = if stands { Ok(1) } else { Err(refused(11)) };
+                assert_eq!(outcome(c::reaches(&m, a as u64, a as u64)), expected, "{a} after {call:?}");
             }
             assert_eq!(c::audit(&m), 1);
         }

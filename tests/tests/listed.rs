@@ -1,7 +1,7 @@
 //! The list of calls of `Listed.antt`, whose answers antt computes through the reference model's step (`listed-answers`), run
 //! through the exported calls.
 
-use bihokura_tests::answers::{code, counted, refused, Finding, Tally, START};
+use bihokura_tests::answers::{answer, code, counted, refused_at, Finding, Tally, START};
 use bihokura_tests::bytes::{container, policy, sealed, settings, Pair, EGRESS, INGRESS};
 use bihokura_tests::layout::WORDS;
 use bihokura_tests::reference::{step, Call, Lent};
@@ -32,7 +32,9 @@ fn batch(blocks: &[Vec<u8>], room: usize, from: (u64, u64), put: &[u16], to: (u6
 
 fn listed() -> Vec<Line> {
     let ours = |call, answer| line(WORDS, call, answer);
-    let other = |n, call| line(n, call, refused(1));
+    let refusal = |number, position| answer(Err(refused_at(number, position)));
+    let refuses = |call, number, position| line(WORDS, call, refusal(number, position));
+    let other = |n, call| line(n, call, refusal(1, 0));
     let found = |after, next| ours(Call::NextFinding(after), code(next));
     let none = |after| ours(Call::NextFinding(after), 0);
     let listing = |after, room| Call::Findings(after, vec![u64::from(BEFORE); room]);
@@ -59,9 +61,9 @@ fn listed() -> Vec<Line> {
         ours(Call::Counts, counted(0, 0, 0)),
         none(START),
         puts(listing(START, 3), &[]),
-        ours(writing(511), refused(13)),
+        refuses(writing(511), 13, 0),
         writes(writing(512), &[0]),
-        ours(Call::RemoveContainer(0), refused(11)),
+        refuses(Call::RemoveContainer(0), 11, 0),
         ours(con(&[(1, 11), (3, 1)]), 0),
         other(WORDS - 1, con(&[(1, 11), (3, 2)])),
         ours(con(&[(1, 11), (3, 2)]), 1),
@@ -79,45 +81,45 @@ fn listed() -> Vec<Line> {
         puts(listing((3, 2, 0), 0), &[]),
         puts(listing((7, 2, 1), 1), &[]),
         other(WORDS - 1, listing(START, 3)),
-        ours(writing(4095), refused(13)),
+        refuses(writing(4095), 13, 0),
         writes(writing(5000), &[0, 1, 2, 3, 4, 5, 6, 7]),
         other(WORDS - 1, writing(5000)),
         ours(Call::Reaches(1, 0), 0),
         ours(Call::Reaches(1, 1), 1),
         ours(Call::Reaches(2, 1), 1),
-        ours(Call::Reaches(4, 256), refused(10)),
-        ours(Call::Reaches(3, 4), refused(11)),
+        refuses(Call::Reaches(4, 256), 10, 0),
+        refuses(Call::Reaches(3, 4), 11, 0),
         ours(Call::CarriesUser(2, 12), 1),
         ours(Call::CarriesUser(2, 65548), 0),
-        ours(Call::CarriesUser(255, 12), refused(11)),
-        ours(Call::CarriesUser(256, 12), refused(10)),
-        ours(Call::Admit(vec![0; 511]), refused(3)),
-        ours(Call::Admit(unchecked), refused(4)),
-        ours(Call::Admit(sealed(&[83, 1])), refused(5)),
-        ours(Call::Admit(sealed(&[67, 9])), refused(6)),
-        ours(Call::Admit(sealed(&[67, 2, 0, 0, 0, 3, 0, 1, 0, 1, 0, 0])), refused(7)),
-        ours(Call::Admit(sealed(&[80, 2, 0, 2, 0, 3, 0, 1, 0, 3, 0, 2])), refused(8)),
-        ours(Call::Admit(sealed(&[67, 0, 0, 1])), refused(9)),
-        ours(Call::Open(sealed(&[83, 65])), refused(7)),
+        refuses(Call::CarriesUser(255, 12), 11, 0),
+        refuses(Call::CarriesUser(256, 12), 10, 0),
+        refuses(Call::Admit(vec![0; 511]), 3, 0),
+        refuses(Call::Admit(unchecked), 4, 510),
+        refuses(Call::Admit(sealed(&[83, 1])), 5, 0),
+        refuses(Call::Admit(sealed(&[67, 9])), 6, 1),
+        refuses(Call::Admit(sealed(&[67, 2, 0, 0, 0, 3, 0, 1, 0, 1, 0, 0])), 7, 10),
+        refuses(Call::Admit(sealed(&[80, 2, 0, 2, 0, 3, 0, 1, 0, 3, 0, 2])), 8, 8),
+        refuses(Call::Admit(sealed(&[67, 0, 0, 1])), 9, 3),
+        refuses(Call::Open(sealed(&[83, 65])), 7, 1),
         other(WORDS + 1, Call::Open(settings(3, 0, 0))),
         ours(Call::Audit, 1),
         ours(Call::RemovePolicy(2), 0),
-        ours(Call::RemovePolicy(2), refused(11)),
-        ours(Call::RemovePolicy(128), refused(10)),
+        refuses(Call::RemovePolicy(2), 11, 0),
+        refuses(Call::RemovePolicy(128), 10, 0),
         ours(Call::Reaches(1, 0), 1),
         ours(Call::RemoveContainer(0), 0),
-        ours(Call::Reaches(0, 1), refused(11)),
+        refuses(Call::Reaches(0, 1), 11, 0),
         writes(writing(3072), &[0, 2, 3, 4, 5, 6]),
         ours(con(&[]), 0),
         ours(Call::Counts, counted(4, 2, 14)),
         found((5, 65535, 65535), (7, 1, 1)),
         ours(Call::Rebuild, 0),
         ours(Call::Counts, counted(4, 2, 14)),
-        ours(lent(&[vec![0; 511]], 0), refused(14)),
-        ours(lent(&three, 5), refused(13)),
+        refuses(lent(&[vec![0; 511]], 0), 14, 0),
+        refuses(lent(&three, 5), 13, 0),
         batch(&[], 0, (3, 4), &[], (3, 4)),
         other(WORDS - 1, lent(&three, 6)),
-        batch(&three, 7, (u64::MAX - 1, 8), &[0, 4, 4, 0, 0, 2], (u64::MAX, 9)),
+        batch(&three, 7, (u64::MAX - 1, 8), &[0, 4, 4, 510, 0, 2], (u64::MAX, 9)),
         ours(Call::Counts, counted(5, 3, 19)),
         ours(Call::Audit, 1),
         ours(Call::Open(settings(3, 0, 0)), 0),
@@ -125,7 +127,7 @@ fn listed() -> Vec<Line> {
     ];
     list.extend((0..128).map(|q| ours(pol(INGRESS, &[], &[]), q)));
     list.extend([
-        ours(pol(INGRESS, &[], &[]), refused(12)),
+        refuses(pol(INGRESS, &[], &[]), 12, 0),
         ours(con(&[]), 0),
         ours(Call::RemovePolicy(5), 0),
         ours(pol(INGRESS, &[], &[]), 5),

@@ -55,6 +55,38 @@ fn refused_openings_and_short_blocks() {
     ]);
 }
 
+/// Document 02, Note 5: the number and the position of each refusal. A short last block, and an input without any, are refused at 0.
+#[test]
+fn the_position_at_fault() {
+    let entries = [
+        bytes::spoiled(container(&[])),
+        opening(),
+        container(&[(1, 1); 9]),
+        policy(INGRESS, &[], &[(1, 1); 5]),
+        policy(INGRESS, &[(1, 1)], &[(1, 1), (2, 0)]),
+        container(&[(1, 1), (1, 1)]),
+        bytes::sealed(&[67, 0, 0, 0, 0, 9]),
+        vec![67; 511],
+    ];
+    let lines = "\
+REFUSED 2 4 510
+REFUSED 3 5 0
+REFUSED 4 6 1
+REFUSED 5 6 3
+REFUSED 6 7 14
+REFUSED 7 8 8
+REFUSED 8 9 5
+REFUSED 9 3 0
+CONTAINERS 0 POLICIES 0 PAIRS 0
+";
+    assert_eq!(run(&[opening(), entries.concat()].concat()), lines);
+    let openings =
+        [(vec![], "3 0"), (settings(1, 65, 9), "7 2"), (settings(1, 0, 9), "7 4"), (bytes::sealed(&[83, 1, 0, 1]), "9 3")];
+    for (input, refusal) in openings {
+        assert_eq!(run(&input), format!("REFUSED 1 {refusal}\n"));
+    }
+}
+
 /// Pieces of nine blocks first, and of 128 from there on.
 #[test]
 fn inputs_around_a_piece_of_input() {
@@ -150,11 +182,12 @@ fn refusals_after_block_five_thousand() {
         _ => spoiled(),
     }));
     let last = expected(&input);
-    assert!(last.contains("REFUSED 5002 4\n") && last.contains("REFUSED 5100 4\n") && last.contains("CONTAINERS 100 POLICIES 99 "));
+    assert!(last.contains("REFUSED 5002 4 510\n") && last.contains("REFUSED 5100 4 510\n"));
+    assert!(last.contains("CONTAINERS 100 POLICIES 99 "));
     same(&run(&input), &input);
     same(&run_in_pieces(&mut r, &input, 100_000, false), &input);
     input.extend(vec![container(&[(1, 1)]); 300].concat());
-    assert!(expected(&input).contains("REFUSED 5257 12\n"));
+    assert!(expected(&input).contains("REFUSED 5257 12 0\n"));
     same(&run(&input), &input);
 }
 
@@ -205,7 +238,7 @@ fn refusals_come_at_once() {
 fn a_refused_opening_comes_at_once() {
     let (child, mut to, lines) = with_lines(piped(PROGRAM));
     to.write_all(&spoiled()).unwrap();
-    assert_eq!(lines.recv_timeout(LIMIT).expect("a line before more is written"), "REFUSED 1 4\n");
+    assert_eq!(lines.recv_timeout(LIMIT).expect("a line before more is written"), "REFUSED 1 4 510\n");
     drop(to);
     assert_eq!(rest(&lines), "");
     assert_eq!(end(child).code, Some(0));

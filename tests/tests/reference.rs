@@ -1,6 +1,6 @@
 //! The reference itself, on document 01's printed example and instances.
 
-use bihokura_tests::answers::{counted, refused};
+use bihokura_tests::answers::{counted, outcome, refused, refused_at};
 use bihokura_tests::bytes::{container, settings};
 use bihokura_tests::layout::WORDS;
 use bihokura_tests::reference::{step, Call, Register};
@@ -46,7 +46,9 @@ fn checks_and_refusals() {
         Call::Reaches(256, 0),
         Call::Write(vec![7; 511]),
     ]);
-    assert_eq!(answers, [0, refused(7), refused(8), refused(11), refused(10), refused(13)]);
+    let refusals = [refused_at(7, 6), refused_at(8, 8), refused(11), refused(10), refused(13)];
+    assert_eq!(answers[0], 0);
+    assert_eq!(answers[1..].iter().map(|answer| outcome(*answer)).collect::<Vec<_>>(), refusals.map(Err));
 }
 
 /// The stored blocks are those that the program `printed_sheet` writes.

@@ -1,7 +1,7 @@
 //! Document 02, Note 4, through the C interface: an entry comes to the lowest free slot of its table, whichever slots are free, and the
 //! entries of a batch, all of one table, to its free slots, rising.
 
-use bihokura_tests::answers::{outcome, Tally};
+use bihokura_tests::answers::{outcome, refused, Tally};
 use bihokura_tests::c;
 use bihokura_tests::random::{seeds, Random};
 use bihokura_tests::registries;
@@ -41,7 +41,7 @@ impl Table {
             assert_eq!(outcome(c::admit(&mut m, &self.blocks[*i])), Ok(*i as u64), "free: {free:?}");
         }
         assert!(m == self.full, "free: {free:?}");
-        assert_eq!(outcome(c::admit(&mut m, &self.blocks[0])), Err(12), "free: {free:?}");
+        assert_eq!(outcome(c::admit(&mut m, &self.blocks[0])), Err(refused(12)), "free: {free:?}");
         assert!(m == self.full, "free: {free:?}");
     }
 

@@ -1,7 +1,7 @@
 //! A registry written into blocks over the C interface: the buffer after the call, and what the file gives when it is opened and
 //! admitted again.
 
-use bihokura_tests::answers::{finding, outcome, Finding, START};
+use bihokura_tests::answers::{finding, outcome, refused, Finding, START};
 use bihokura_tests::bytes::{container, policy, settings, EGRESS, INGRESS};
 use bihokura_tests::c;
 use bihokura_tests::cases::{disordered, flip, in_step_or_not, memory, OTHER_SIZES};
@@ -48,7 +48,7 @@ fn every_length_near_that_of_the_file() {
         let around = |n: usize, by: usize| n.saturating_sub(by)..=n + by;
         for n in around(file, 513).chain((0..=file + 2048).step_by(512).flat_map(|n| around(n, 2))) {
             let answer = check_between(&mut r, &m, n);
-            assert_eq!(outcome(answer), if n < file { Err(13) } else { Ok(file as u64) }, "into {n} bytes");
+            assert_eq!(outcome(answer), if n < file { Err(refused(13)) } else { Ok(file as u64) }, "into {n} bytes");
         }
     }
 }
@@ -72,8 +72,8 @@ fn memories_and_buffers_of_each_sort() {
             }
         }
     });
-    for (refusal, short) in [(None, false), (Some(13), true), (Some(1), false), (Some(1), true), (Some(2), false), (Some(2), true)]
-    {
+    for (number, short) in [(0, false), (13, true), (1, false), (1, true), (2, false), (2, true)] {
+        let refusal = (number != 0).then_some(refused(number));
         assert!(met.get(&(refusal, short)).is_some_and(|n| *n > 100), "{met:?}");
     }
 }

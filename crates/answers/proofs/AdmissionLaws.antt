@@ -31,11 +31,11 @@ policy_slot i = record { 0 = i }
 
 module _ (m : List ℕ) where
   -- no slot is free: 12
-  pub container-full : (x : Container) → slot_found container_slot (lowest_free (model_in m).containers) ≡ None → container_admitted m x ≡ (m, refusal (reason_number TableFull))
+  pub container-full : (x : Container) → slot_found container_slot (lowest_free (model_in m).containers) ≡ None → container_admitted m x ≡ (m, refusal (reason_number TableFull) 0)
   unfolding container_admitted
   container-full x e = ap (container_admitted_to m x) (found-none container_slot _ e)
 
-  pub policy-full : (p : Policy) → slot_found policy_slot (lowest_free (model_in m).policies) ≡ None → policy_admitted m p ≡ (m, refusal (reason_number TableFull))
+  pub policy-full : (p : Policy) → slot_found policy_slot (lowest_free (model_in m).policies) ≡ None → policy_admitted m p ≡ (m, refusal (reason_number TableFull) 0)
   unfolding policy_admitted
   policy-full p e = ap (policy_admitted_to m p) (found-none policy_slot _ e)
 

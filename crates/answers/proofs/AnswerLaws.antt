@@ -8,7 +8,7 @@ use lib.ListN.{length, get_or}
 use Rattle.model.specs.Findings.{Place}
 use Rattle.buffer.specs.Buffer.{overwritten, Puts}
 use Rattle.buffer.proofs.BufferLaws.{puts-start}
-use Rattle.model.specs.Calls.{Call, Answer, refusal, written}
+use Rattle.model.specs.Calls.{Call, Answer, refusal, refusal_of, written}
 use Rattle.steps.specs.MemoryStep.{changes, memory_step}
 use Rattle.steps.proofs.Refused.{refused-unchanged, query-unchanged}
 use Rattle.findings.specs.declared.Cursor.{Cursor}
@@ -16,6 +16,7 @@ use Rattle.findings.specs.Steps.{cursor_place}
 use Rattle.std.specs.Prelude.{Option, Some, None, Result, Ok, Err, IsErrAnd, ok_or}
 use Rattle.std.proofs.lemmas.Result.{err_from_is_err_and}
 use Rattle.block.specs.declared.Reason.{Reason}
+use Rattle.block.specs.declared.Refusal.{Refusal}
 use Rattle.block.specs.declared.Reason.TheVariants.{MemorySize, NotWellFormed, BlockLength, Checksum, Kind, Limit, Range, Order, Unused, BeyondTable, FreeSlot, TableFull, BufferLength, BatchLength}
 use Rattle.block.specs.Refusal.{reason_number}
 use Rattle.model.specs.declared.Finding.{Finding}
@@ -23,7 +24,7 @@ use Rattle.findings.specs.declared.Put.{Put}
 use Rattle.answers.specs.declared.Admitted.{Admitted}
 use Rattle.answers.specs.declared.Admitted.TheVariants as admitted
 use Rattle.answers.specs.declared.Counts.{Counts}
-use Rattle.answers.specs.Answers.{outcome_answer, reply_answer, admitted_answer, next_answer, put_answer, count_put, counted_answer, file_answer, count_bytes}
+use Rattle.answers.specs.Answers.{open_answer, outcome_answer, reply_answer, admitted_answer, next_answer, put_answer, count_put, counted_answer, file_answer, count_bytes}
 
 -- ---- no two say the same
 
@@ -70,8 +71,21 @@ reason-injective : (r s : Reason) → reason_number r ≡ reason_number s → r 
 reason-injective r s e = sym (reason-back r) ∙ ap reason_numbered e ∙ reason-back s
 
 -- the reason that a refusal says
-refused-alike : {A : Type 0} (r s : Reason) → refusal (reason_number r) ≡ refusal (reason_number s) → ◌≡◌ {A = Result A Reason} (Err r) (Err s)
+refused-alike : {A : Type 0} (r s : Reason) → refusal (reason_number r) 0 ≡ refusal (reason_number s) 0 → ◌≡◌ {A = Result A Reason} (Err r) (Err s)
 refused-alike r s e = let h : reason_number r ≡ reason_number s = cc in ap Err (reason-injective r s h)
+
+-- the reason and the position that a refusal says
+refusal-alike : {A : Type 0} (f g : Refusal) → refusal_of f ≡ refusal_of g → ◌≡◌ {A = Result A Refusal} (Err f) (Err g)
+refusal-alike f g e =
+    let h : reason_number f.reason ≡ reason_number g.reason = cc in
+    let p : f.position ≡ g.position = cc in
+    ap₂ (λ r q. Err (record { reason = r; position = q })) (reason-injective f.reason g.reason h) p
+
+open-injective : (x y : Result (Unit {0}) Refusal) → open_answer x ≡ open_answer y → x ≡ y
+open-injective (Err f) (Err g) e = refusal-alike f g e
+open-injective (Err f) (Ok v) e = cc
+open-injective (Ok u) (Err g) e = cc
+open-injective (Ok u) (Ok v) e = refl
 
 outcome-injective : (x y : Result (Unit {0}) Reason) → outcome_answer x ≡ outcome_answer y → x ≡ y
 outcome-injective (Err r) (Err s) e = refused-alike r s e
@@ -85,8 +99,8 @@ reply-injective (Err r) (Ok t) e = cc
 reply-injective (Ok t) (Err s) e = cc
 reply-injective (Ok t) (Ok u) e = cc
 
-admitted-injective : (x y : Result Admitted Reason) → admitted_answer x ≡ admitted_answer y → x ≡ y
-admitted-injective (Err r) (Err s) e = refused-alike r s e
+admitted-injective : (x y : Result Admitted Refusal) → admitted_answer x ≡ admitted_answer y → x ≡ y
+admitted-injective (Err f) (Err g) e = refusal-alike f g e
 admitted-injective (Err r) (Ok (admitted.Container d)) e = cc
 admitted-injective (Err r) (Ok (admitted.Policy t)) e = cc
 admitted-injective (Ok (admitted.Container c)) (Err s) e = cc
@@ -146,19 +160,19 @@ file-injective (Ok i) (Ok j) d e h k = ap Ok k
 
 -- ---- what a `?` returns
 
-pub returned : {A : Type 0} {o : Result A Reason} {r : Reason} → IsErrAnd o (λ x. x ≡ r) → o ≡ Err r
-returned {A} {o} h = let e = err_from_is_err_and o h in e.1 ∙ ap Err e.2
+pub returned : {A E : Type 0} {o : Result A E} {r : E} → IsErrAnd o (λ x. x ≡ r) → o ≡ Err r
+returned {A} {E} {o} h = let e = err_from_is_err_and o h in e.1 ∙ ap Err e.2
 
--- the reason that an `ok_or` gives
-pub ok_or-reason : {A B : Type 0} (o : Result A Reason) (q : Option B) (s : Reason) {r : Reason} → IsErrAnd o (λ x. x ≡ r) → Err r ≡ ok_or q s → IsErrAnd o (λ x. x ≡ s)
-ok_or-reason (Err x) None s {r} h e = let k : r ≡ s = cc in h ∙ k
-ok_or-reason (Err x) (Some b) s h e = cc
-ok_or-reason (Ok y) q s h e = h
+-- what a `?` makes of the reason that an `ok_or` gives
+pub ok_or-reason : {A B E F : Type 0} (into : E → F) (o : Result A F) (q : Option B) (s : E) {r : E} → IsErrAnd o (λ x. x ≡ into r) → Err r ≡ ok_or q s → IsErrAnd o (λ x. x ≡ into s)
+ok_or-reason into (Err x) None s {r} h e = let k : r ≡ s = cc in h ∙ ap into k
+ok_or-reason into (Err x) (Some b) s h e = cc
+ok_or-reason into (Ok y) q s h e = h
 
 -- a call that is refused, and whose answer says so
-pub turned : {A : Type 0} (m : List ℕ) (call : Call) (say : Result A Reason → Answer) {o : Result A Reason} {r : Reason} → IsErrAnd o (λ x. x ≡ r)
-    → say (Err r) ≡ refusal (reason_number r) → memory_step m call ≡ (m, refusal (reason_number r)) → (m, say o) ≡ memory_step m call
-turned m call say h q e = ap (λ x. (m, say x)) (returned h) ∙ ap (λ (x : Answer). (m, x)) q ∙ sym e
+pub turned : {A E : Type 0} (m : List ℕ) (call : Call) (say : Result A E → Answer) {o : Result A E} {r : E} → IsErrAnd o (λ x. x ≡ r)
+    → memory_step m call ≡ (m, say (Err r)) → (m, say o) ≡ memory_step m call
+turned m call say h e = ap (λ x. (m, say x)) (returned h) ∙ sym e
 
 -- ---- calls that write into another buffer that they are lent
 
@@ -169,14 +183,14 @@ module _ (m : List ℕ) (call : Call) where
       let s = memory_step m call in
       ((m, a) ≡ s) × ((k ≡ length (written s.1)) × (e ≡ overwritten d (written s.1)))
 
-  pub promised-refused : (d : List ℕ) (n : ℕ) → memory_step m call ≡ (m, refusal n) → Promised d d (refusal n) 0
+  pub promised-refused : (d : List ℕ) (n p : ℕ) → memory_step m call ≡ (m, refusal n p) → Promised d d (refusal n p) 0
   unfolding overwritten
-  promised-refused d n h = (sym h, (ap (λ s. length (written s.1)) (sym h), ap (λ s. overwritten d (written s.1)) (sym h)))
+  promised-refused d n p h = (sym h, (ap (λ s. length (written s.1)) (sym h), ap (λ s. overwritten d (written s.1)) (sym h)))
 
   pub promised-turned : {A : Type 0} (say : Result A Reason → Answer) (count : Result A Reason → ℕ) {o : Result A Reason} {r : Reason} (d : List ℕ) → IsErrAnd o (λ x. x ≡ r)
-      → say (Err r) ≡ refusal (reason_number r) → count (Err r) ≡ 0 → memory_step m call ≡ (m, refusal (reason_number r)) → Promised d d (say o) (count o)
+      → say (Err r) ≡ refusal (reason_number r) 0 → count (Err r) ≡ 0 → memory_step m call ≡ (m, refusal (reason_number r) 0) → Promised d d (say o) (count o)
   promised-turned say count {o} {r} d h q z e =
-      let p = promised-refused d (reason_number r) e in
+      let p = promised-refused d (reason_number r) 0 e in
       let w = returned h in
       (ap (λ x. (m, say x)) w ∙ ap (λ (x : Answer). (m, x)) q ∙ p.0, (ap count w ∙ z ∙ p.1.0, p.1.1))
 
@@ -191,13 +205,13 @@ module _ (m : List ℕ) (call : Call) where
 -- A call that promises `(memory at exit, answer) ≡ memory_step (memory at entry) call` and is refused, or asks, leaves every word
 -- as it was.
 module _ (m m' : List ℕ) (a : Answer) (call : Call) (promise : (m', a) ≡ memory_step m call) where
-  pub refused-leaves : (n : ℕ) → a ≡ refusal n → m' ≡ m
-  refused-leaves n e = ap (λ (p : List ℕ × Answer). p.0) promise ∙ refused-unchanged m call n (sym (ap (λ (p : List ℕ × Answer). p.1) promise) ∙ e)
+  pub refused-leaves : (n p : ℕ) → a ≡ refusal n p → m' ≡ m
+  refused-leaves n p e = ap (λ (r : List ℕ × Answer). r.0) promise ∙ refused-unchanged m call n p (sym (ap (λ (r : List ℕ × Answer). r.1) promise) ∙ e)
 
   -- so of a list that it was lent besides
-  pub refused-keeps : (d e : List ℕ) → e ≡ overwritten d (written (memory_step m call).1) → (n : ℕ) → a ≡ refusal n → e ≡ d
+  pub refused-keeps : (d e : List ℕ) → e ≡ overwritten d (written (memory_step m call).1) → (n p : ℕ) → a ≡ refusal n p → e ≡ d
   unfolding overwritten
-  refused-keeps d e h n r = h ∙ ap (λ x. overwritten d (written x)) (sym (ap (λ (p : List ℕ × Answer). p.1) promise) ∙ r)
+  refused-keeps d e h n p q = h ∙ ap (λ x. overwritten d (written x)) (sym (ap (λ (r : List ℕ × Answer). r.1) promise) ∙ q)
 
   pub query-leaves : changes call ≡ false → m' ≡ m
   query-leaves e = ap (λ (p : List ℕ × Answer). p.0) promise ∙ query-unchanged m call e

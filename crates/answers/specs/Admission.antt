@@ -9,11 +9,11 @@ use Rattle.formed.specs.Registry.{model_in, registry_in, image}
 
 module _ (m : List ℕ) where
   abbrev pub container_admitted_to : Container → Option ℕ → List ℕ × Answer
-  container_admitted_to x none = (m, refusal 12)
+  container_admitted_to x none = (m, refusal 12 0)
   container_admitted_to x (some c) = (image (change_container (registry_in m) c (some x)), container_at c)
 
   abbrev pub policy_admitted_to : Policy → Option ℕ → List ℕ × Answer
-  policy_admitted_to p none = (m, refusal 12)
+  policy_admitted_to p none = (m, refusal 12 0)
   policy_admitted_to p (some q) = (image (change_policy (registry_in m) q p (some p)), policy_at q)
 
   unfoldable pub container_admitted : Container → List ℕ × Answer

@@ -1,5 +1,5 @@
-// What an admission and the counts give where they are accepted; what each call answers, its reason where it is refused, is defined in
-// specs/.
+// What an admission and the counts give where they are accepted; what each call answers, its reason or its whole refusal where it is
+// refused, is defined in specs/.
 #![tactic(auto)]
 
 use model::{ContainerSlot, PolicySlot};

@@ -3,12 +3,12 @@ use mathlib.Core.Path.{◌≡◌, refl, sym, ap, subst, ◌∙◌}
 use mathlib.Core.Bool.{false}
 use mathlib.Core.List.{List, [], ◌∷◌}
 use mathlib.Core.Option.{Option, none, some}
-use Prim.Native.Nat.{ℕ, zero, suc, ◌+◌, ◌<◌}
+use Prim.Native.Nat.{ℕ, zero, suc, ◌+◌, ◌≤◌, ◌<◌}
 use native.Mathlib.Decide.{dec_lt}
 use native.Mathlib.Omega.{arith}
 use lib.ListN.{length, set}
 use Rattle.std.specs.Prelude.{Result, Ok, Err}
-use Rattle.block.specs.declared.Reason.{Reason}
+use Rattle.block.specs.declared.Refusal.{Refusal}
 use Rattle.block.specs.Entry.{Container, Policy, Entry, container, policy}
 use Rattle.block.specs.Refusal.{Read, refused, accepted}
 use Rattle.block.specs.Reader.{read_entry}
@@ -18,6 +18,7 @@ use Rattle.model.specs.Model.{Model, with_container, with_policy}
 use Rattle.model.specs.Calls.{Answer, said}
 use Rattle.model.specs.ModelStep.{placing, placing_policy, admitting}
 use Rattle.model.proofs.Lowest.{lowest-below, finds-lowest}
+use Rattle.model.proofs.Refused.{Numbers, admitting-numbers}
 use Rattle.formed.specs.Registry.{model_in, EntriesFormed}
 use Rattle.entries.specs.Entries.{NoneFree}
 use Rattle.entries.proofs.FreeSlots.{none-free-yet}
@@ -26,7 +27,7 @@ use Rattle.answers.specs.declared.Admitted.{Admitted}
 use Rattle.answers.specs.declared.Admitted.TheVariants as admitted
 use Rattle.answers.specs.Answers.{admitted_answer}
 use Rattle.batch_blocks.specs.declared.Came.{Came}
-use Rattle.batch_blocks.specs.Blocks.{block_placed, slot_of, NoneCame, from_past, CameWith, FreeFrom}
+use Rattle.batch_blocks.specs.Blocks.{block_placed, slot_of, position_of, NoneCame, from_past, CameWith, FreeFrom}
 use Rattle.batch_blocks.proofs.Left.{left-model}
 
 -- ---- a table whose slots fill
@@ -89,16 +90,20 @@ module _ (p : Model) where
 
 -- ---- the slot, and the cursors
 
-slot-below : (r : Result Admitted Reason) → ((i : ℕ) → (said (admitted_answer r)).container ≡ some i → i < 256) → ((i : ℕ) → (said (admitted_answer r)).policy ≡ some i → i < 128) → slot_of r < 256
+slot-below : (r : Result Admitted Refusal) → ((i : ℕ) → (said (admitted_answer r)).container ≡ some i → i < 256) → ((i : ℕ) → (said (admitted_answer r)).policy ≡ some i → i < 128) → slot_of r < 256
 slot-below (Err k) f g = omega arith
 slot-below (Ok (admitted.Container c)) f g = f c.0 refl
 slot-below (Ok (admitted.Policy q)) f g = omega (arith, g q.0 refl)
+
+position-below : (r : Result Admitted Refusal) → Numbers (said (admitted_answer r)).refused → position_of r ≤ 510
+position-below (Err f) h = h.1
+position-below (Ok a) h = omega arith
 
 -- before the first block
 pub free-from-none : (p : Model) {came : Came} → NoneCame came → FreeFrom p came
 free-from-none p g = record { containers = rw g.container_from (none-free-yet p.containers); policies = rw g.policy_from (none-free-yet p.policies) }
 
-module _ (m b : List ℕ) {m' : List ℕ} (r : Result Admitted Reason) (placed : (m', admitted_answer r) ≡ block_placed m b) where
+module _ (m b : List ℕ) {m' : List ℕ} (r : Result Admitted Refusal) (placed : (m', admitted_answer r) ≡ block_placed m b) where
   abbrev now : Model
   now = (admitting (model_in m) (read_entry (model_in m).settings b)).0
 
@@ -108,10 +113,12 @@ module _ (m b : List ℕ) {m' : List ℕ} (r : Result Admitted Reason) (placed :
       let e = ap (λ (s : List ℕ × Answer). s.1) placed in
       subst (λ (a : Answer). Filled (model_in m) (now, a)) (sym e) (fills (model_in m) (read_entry (model_in m).settings b))
 
-  pub placed_below : slot_of r < 256
+  pub placed_below : (slot_of r < 256) × (position_of r ≤ 510)
+  unfolding block_placed
   placed_below =
       let s = sized-in m in
-      slot-below r (λ i e. omega (arith, filled.0.below i e, s.containers)) (λ i e. omega (arith, filled.1.below i e, s.policies))
+      let said_so = subst (λ (a : Answer). Numbers (said a).refused) (sym (ap (λ (x : List ℕ × Answer). x.1) placed)) (admitting-numbers (model_in m) (model_in m).settings b) in
+      (slot-below r (λ i e. omega (arith, filled.0.below i e, s.containers)) (λ i e. omega (arith, filled.1.below i e, s.policies)), position-below r said_so)
 
   pub placed-free-from : EntriesFormed m → {came came' : Came} → CameWith came r came' → FreeFrom (model_in m) came → FreeFrom (model_in m') came'
   placed-free-from ok {came} {came'} w h =

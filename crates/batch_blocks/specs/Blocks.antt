@@ -3,7 +3,7 @@ use Rattle.std.specs.Prelude.{◌≡◌, Bool, List, ℕ, ◌+◌, Result, Ok, E
 use Rattle.std.proofs.Math.Option.{Option, none, some}
 use Rattle.bitrow.specs.Bit.{bit_at}
 use Rattle.bitrow.specs.Set.{nothing, insert}
-use Rattle.block.specs.declared.Reason.{Reason}
+use Rattle.block.specs.declared.Refusal.{Refusal}
 use Rattle.block.specs.Reader.{read_entry}
 use Rattle.model.specs.Model.{Model}
 use Rattle.model.specs.Calls.{Answer, said}
@@ -23,10 +23,15 @@ block_placed m b =
     (image (record { model = s.0; bits = bits_in m }), s.1)
 
 -- the slot that an entry came to, 0 where it was refused
-abbrev pub slot_of : Result Admitted Reason → ℕ
-slot_of (Err r) = 0
+abbrev pub slot_of : Result Admitted Refusal → ℕ
+slot_of (Err f) = 0
 slot_of (Ok (admitted.Container c)) = c.0
 slot_of (Ok (admitted.Policy q)) = q.0
+
+-- the position at fault of a block that was refused, 0 where it was taken
+abbrev pub position_of : Result Admitted Refusal → ℕ
+position_of (Err f) = f.position
+position_of (Ok a) = 0
 
 -- nothing came yet
 pub record NoneCame (came : Came) : Type 0 where
@@ -52,7 +57,7 @@ pub record ArrivedWith (a : Arrived) (slot : Option ℕ) (r : Arrived) : Type 0 
   pub slots : bit_at r.slots ≡ with_slot slot (bit_at a.slots)
   pub from : r.from ≡ from_past slot a.from
 
-pub record CameWith (came : Came) (answer : Result Admitted Reason) (r : Came) : Type 0 where
+pub record CameWith (came : Came) (answer : Result Admitted Refusal) (r : Came) : Type 0 where
   pub containers : ArrivedWith came.containers (said (admitted_answer answer)).container r.containers
   pub policies : ArrivedWith came.policies (said (admitted_answer answer)).policy r.policies
 

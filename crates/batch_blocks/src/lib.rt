@@ -2,14 +2,14 @@
 // for a free slot begins where the last one of its table ended.
 #![tactic(auto)]
 
-ghost use Rattle.std.specs.Prelude.{◌≡◌, ◌<◌};
+ghost use Rattle.std.specs.Prelude.{◌≡◌, ◌≤◌, ◌<◌};
 ghost use Rattle.std.proofs.Math.Option.{some};
 ghost use Rattle.formed.specs.Registry.{model_in, EntriesFormed};
 ghost use Rattle.answers.specs.Answers.{admitted_answer};
-ghost use Rattle.batch_blocks.specs.Blocks.{block_placed, slot_of, NoneCame, ArrivedWith, CameWith, FreeFrom};
+ghost use Rattle.batch_blocks.specs.Blocks.{block_placed, slot_of, position_of, NoneCame, ArrivedWith, CameWith, FreeFrom};
 
 use answers::Admitted;
-use block::{Reason, Sort};
+use block::{Reason, Refusal, Sort};
 use model::{ContainerSlot, PolicySlot};
 use store::Words;
 
@@ -56,10 +56,10 @@ pub fn none_came() -> Came
 
 // The entry of a block comes to the lowest free slot of its table; no stored bit changes. The block may be of any bytes.
 // Kept: an arm for each table, as at `free_slots::admit_entry`.
-pub fn place_block(memory: &mut Words, block: &[u8], came: Came) -> Result<Admitted, Reason>
+pub fn place_block(memory: &mut Words, block: &[u8], came: Came) -> Result<Admitted, Refusal>
     requires { EntriesFormed memory.old × FreeFrom (model_in memory.old) came }
     ensures result_after { (memory.new, admitted_answer result) ≡ block_placed memory.old block.now }
-    ensures result_bound { slot_of result < 256 }
+    ensures result_bound { (slot_of result < 256) × (position_of result ≤ 510) }
 {
     let sort = call_tests::test_block(memory, block)?;
     match sort {
@@ -79,7 +79,7 @@ pub fn place_block(memory: &mut Words, block: &[u8], came: Came) -> Result<Admit
 }
 
 // One answer more.
-pub fn came_with(came: Came, answer: Result<Admitted, Reason>) -> Came
+pub fn came_with(came: Came, answer: Result<Admitted, Refusal>) -> Came
     requires { slot_of answer < 256 }
     ensures { CameWith came answer result }
 {

@@ -1,9 +1,10 @@
 -- One block more, from none to all; then what is settled is what the admissions leave one after another, and the numbers and the tally are theirs.
 use mathlib.Core.Path.{◌≡◌, sym, ap, ap₂, subst, ◌∙◌}
-use mathlib.Core.Bool.{Bool, true}
+use mathlib.Core.Bool.{Bool, true, not, ◌||◌}
 use mathlib.Core.List.{List, [], ◌∷◌, ◌++◌, map, map-append, append_assoc}
-use Prim.Native.Nat.{ℕ, ◌+◌, ◌*◌, ◌≤◌}
+use Prim.Native.Nat.{ℕ, ◌+◌, ◌*◌, ◌%◌, ◌≤◌}
 use native.Mathlib.Omega.{arith}
+use lib.Dec.{eqb, ltb}
 use lib.ListN.{length, take, drop, set, length-set}
 use Rattle.bitrow.specs.Bit.{bit_at}
 use Rattle.buffer.specs.Buffer.{overwritten, Puts}
@@ -11,7 +12,9 @@ use Rattle.buffer.proofs.BufferLaws.{puts_none, puts-next, puts-as, puts-start, 
 use Rattle.block.specs.Cut.{blocks_of}
 use Rattle.std.specs.Prelude.{Result, Ok, Err, IsErrAnd}
 use Rattle.block.specs.declared.Reason.{Reason}
-use Rattle.block.specs.Refusal.{reason_number, first_refusal}
+use Rattle.block.specs.declared.Reason.TheVariants.{BufferLength, BatchLength}
+use Rattle.block.specs.declared.Refusal.{Refusal}
+use Rattle.block.specs.Refusal.{reason_number, lone_refusal, first_refusal}
 use Rattle.block.proofs.Cut.{blocks-count}
 use Rattle.model.specs.declared.Tally.{Tally}
 use Rattle.model.specs.Calls.{change, admit_batch, Answer, refusal, batch_put, numbers_of, pairs_of, written, tally_left, run, said}
@@ -201,18 +204,17 @@ module _ (m bs d : List ℕ) (t : Tally) where
 
   -- ---- a batch that is refused
 
-  pub batch-turned : (n : ℕ) (l : List ℕ) (o : Result Tally Reason) (r : Reason) → IsErrAnd o (λ x. x ≡ r)
-      → memory_step m (change (admit_batch bs n t)) ≡ (m, refusal (reason_number r))
+  pub batch-turned : (n : ℕ) (l : List ℕ) (o : Result Tally Refusal) (r : Reason) → IsErrAnd o (λ x. x ≡ lone_refusal r)
+      → memory_step m (change (admit_batch bs n t)) ≡ (m, refusal (reason_number r) 0)
       → let s = memory_step m (change (admit_batch bs n t)) in
       ((m, batched_answer o l) ≡ s) × ((d ≡ overwritten d (written s.1)) × (tally_after t o ≡ tally_left t s.1))
   batch-turned n l o r w h =
-      let g = promised-refused m (change (admit_batch bs n t)) d (reason_number r) h in
-      let e : o ≡ Err r = returned w in
-      (ap (λ (x : Result Tally Reason). (m, batched_answer x l)) e ∙ g.0, (g.1.1, ap (tally_after t) e ∙ ap (λ (s : List ℕ × Answer). tally_left t s.1) (sym h)))
+      let g = promised-refused m (change (admit_batch bs n t)) d (reason_number r) 0 h in
+      let e : o ≡ Err (lone_refusal r) = returned w in
+      (ap (λ (x : Result Tally Refusal). (m, batched_answer x l)) e ∙ g.0, (g.1.1, ap (tally_after t) e ∙ ap (λ (s : List ℕ × Answer). tally_left t s.1) (sym h)))
 
 -- refused by 14 or 13
 pub batch-refused-by : (m bs : List ℕ) (n : ℕ) (t : Tally) {r : Reason} → well_formed m ≡ true → batch_test bs n ≡ Err r
-    → memory_step m (change (admit_batch bs n t)) ≡ (m, refusal (reason_number r))
-batch-refused-by m bs n t formed e =
-    let f = reason_for (first_refusal (batch_checks bs n)) e in
-    batch-refused m formed bs n t f.0 f.1 ∙ ap (λ w. (m, refusal (reason_number w))) f.2
+    → memory_step m (change (admit_batch bs n t)) ≡ (m, refusal (reason_number r) 0)
+batch-refused-by m bs n t {r} formed e =
+    batch-refused m formed bs n t (lone_refusal r) (reason_for BatchLength (ltb 65536 (length bs) || not (eqb (length bs % 512) 0)) BufferLength (ltb n (2 * length (blocks_of bs))) e)

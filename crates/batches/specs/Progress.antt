@@ -3,6 +3,7 @@ use Rattle.std.specs.Prelude.{◌≡◌, List, map, ℕ, ◌+◌, ◌*◌, ◌^�
 use Rattle.bitrow.specs.Bit.{bit_at}
 use Rattle.buffer.specs.Buffer.{Puts}
 use Rattle.block.specs.declared.Reason.{Reason}
+use Rattle.block.specs.declared.Refusal.{Refusal}
 use Rattle.block.specs.Refusal.{first_refusal}
 use Rattle.block.specs.Cut.{blocks_of}
 use Rattle.model.specs.declared.Tally.{Tally}
@@ -37,7 +38,7 @@ first_answers m bs i = (run admitting_block (model_in m) (first_blocks bs i)).1
 
 -- a block b was answered so: it leaves of m and p the memory m' and the progress p', and its numbers stand in the list d, now e
 pub record TookBlock (m b d : List ℕ) (i : ℕ) (p : Progress) (m' e : List ℕ) (p' : Progress) : Type 0 where
-  pub answer : Result Admitted Reason
+  pub answer : Result Admitted Refusal
   pub placed : (m', admitted_answer answer) ≡ block_placed m b
   pub came : CameWith p.came answer p'.came
   pub tally : p'.tally ≡ tallied_one p.tally (is_taken (pair_of (admitted_answer answer)))

@@ -9,12 +9,12 @@ ghost use Rattle.model.specs.Batch.{pair_of};
 ghost use Rattle.formed.specs.Registry.{model_in, well_formed, EntriesFormed};
 ghost use Rattle.steps.specs.MemoryStep.{memory_step};
 ghost use Rattle.answers.specs.Answers.{admitted_answer, batched_answer, tally_after};
-ghost use Rattle.batch_blocks.specs.Blocks.{slot_of, FreeFrom};
+ghost use Rattle.batch_blocks.specs.Blocks.{slot_of, position_of, FreeFrom};
 ghost use Rattle.batches.specs.Progress.{batch_test, Begun, TookBlock, BatchAt};
 
 use answers::Admitted;
 use batch_blocks::Came;
-use block::Reason;
+use block::{Reason, Refusal};
 use model::Tally;
 use store::Words;
 
@@ -34,10 +34,11 @@ fn begin(tally: Tally) -> Progress
     }
 }
 
-// The two numbers of a block: 0 and its slot, or why it was refused and 0.
-// Kept: the `as`: no `From` goes from `usize` to `u16`, and a `TryFrom` would add a refusal that cannot come, since a slot is below 256.
-fn numbers(answer: Result<Admitted, Reason>) -> (u16, u16)
-    requires { slot_of answer < 256 }
+// The two numbers of a block: 0 and its slot, or why it was refused and the position at fault.
+// Kept: the `as`: no `From` goes from `usize` to `u16`, and a `TryFrom` would add a refusal that cannot come, since a slot is below 256 and a
+// position below 511.
+fn numbers(answer: Result<Admitted, Refusal>) -> (u16, u16)
+    requires { (slot_of answer < 256) × (position_of answer ≤ 510) }
     ensures { result ≡ pair_of (admitted_answer answer) }
 {
     match answer {
@@ -45,7 +46,7 @@ fn numbers(answer: Result<Admitted, Reason>) -> (u16, u16)
             Admitted::Container(c) => (0, c.0 as u16),
             Admitted::Policy(q) => (0, q.0 as u16),
         },
-        Err(reason) => (u16::from(reason.number()), 0),
+        Err(refusal) => (u16::from(refusal.reason.number()), refusal.position as u16),
     }
 }
 
@@ -101,14 +102,14 @@ fn test_batch(blocks: &[u8], numbers: usize) -> Result<(), Reason>
     Ok(())
 }
 
-// The blocks are admitted one after another. Two numbers for each are put into the list: 0 and the slot, or the refusal and 0; the rest
-// of the list is kept. The tally is brought up to date.
+// The blocks are admitted one after another. Two numbers for each are put into the list: 0 and the slot, or the refusal and the position at
+// fault; the rest of the list is kept. The tally is brought up to date.
 pub fn admit_batch(
     memory: &mut [u64],
     blocks: &[u8],
     answers: &mut [u16],
     tally: Tally,
-) -> Result<Tally, Reason>
+) -> Result<Tally, Refusal>
     ensures result_after { (memory.new, batched_answer result (take (2 * length (blocks_of blocks.now)) answers.new)) ≡ memory_step memory.old (change (admit_batch blocks.now (length answers.old) tally)) }
     ensures answers_after { answers.new ≡ overwritten answers.old (written (memory_step memory.old (change (admit_batch blocks.now (length answers.old) tally))).1) }
     ensures tally_value { tally_after tally result ≡ tally_left tally (memory_step memory.old (change (admit_batch blocks.now (length answers.old) tally))).1 }

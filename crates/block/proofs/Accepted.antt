@@ -3,7 +3,7 @@
 use mathlib.Core.Path.{◌≡◌, refl, sym, ap, ◌∙◌}
 use mathlib.Core.Logic.{◌↔◌}
 use mathlib.Core.Bool.{Bool, true, false, ◌&&◌, ◌||◌, cond, and-true, and-false, false-or, and_assoc, and_comm, and-eq-true_iff}
-use mathlib.Core.List.{List, [], ◌∷◌}
+use mathlib.Core.List.{List}
 use Prim.Native.Nat.{ℕ}
 use borrow.Author.Tests.{eq-eqb, ne_eqb}
 use lib.Dec.{eqb}
@@ -12,10 +12,11 @@ use Rattle.std.specs.Prelude.{None, Result, Ok, ⊤, is_none}
 use Rattle.block.specs.declared.Refusal.{Refusal}
 use Rattle.block.specs.Entry.{Settings, Entry, container, policy}
 use Rattle.block.specs.Bytes.{byte_at, number_at, checksum}
+use Rattle.block.specs.Fault.{field_fault}
 use Rattle.block.specs.Refusal.{first_refusal, accepted, read_unless}
-use Rattle.block.specs.Reader.{within, range_faults, order_faults, unused_fault, container_layout, policy_layout, is_container, layout_of, container_said, policy_said, entry_said, settings_fault, settings_said, settings_checks, entry_checks, read_settings, read_entry, AcceptedAs}
+use Rattle.block.specs.Reader.{within, range_faults, order_faults, unused_fault, container_layout, policy_layout, is_container, layout_of, container_said, policy_said, entry_said, settings_fields, settings_unused, settings_said, settings_checks, entry_checks, read_settings, read_entry, AcceptedAs}
 use Rattle.block.specs.Written.{valid_entry, valid_settings}
-use Rattle.block.proofs.Faults.{clear-unless, clear-or_else}
+use Rattle.block.proofs.Faults.{clear-or_else, clear-field}
 use Rattle.block.proofs.LabelLists.{valid-clear}
 use Rattle.block.proofs.Checks.{unless-none, equal-none, accepted-clear}
 
@@ -24,8 +25,8 @@ pub record SettingsRead (b : List ℕ) (s : Settings) : Type 0 where
   pub long : length b ≡ 512
   pub checked : number_at b 510 ≡ checksum b
   pub kind : byte_at b 0 ≡ 83
-  pub ranges : settings_fault b ≡ None
-  pub unused : unused_fault b (record { from = 3; to = 4 } ∷ record { from = 6; to = 510 } ∷ []) ≡ None
+  pub ranges : field_fault (settings_fields b) ≡ None
+  pub unused : unused_fault b settings_unused ≡ None
   pub says : s ≡ settings_said b
 
 pub settings-accepted : (b : List ℕ) (s : Settings) → (read_settings b ≡ accepted s) ↔ SettingsRead b s
@@ -47,7 +48,7 @@ pub record EntryRead (b : List ℕ) (e : Entry) : Type 0 where
   pub long : length b ≡ 512
   pub checked : number_at b 510 ≡ checksum b
   pub kind : (is_container b || eqb (byte_at b 0) 80) ≡ true
-  pub limits : (layout_of b).limits ≡ None
+  pub limits : field_fault (layout_of b).limits ≡ None
   pub ranges : range_faults b (layout_of b).runs ≡ None
   pub orders : order_faults b (layout_of b).runs ≡ None
   pub unused : unused_fault b (layout_of b).unused ≡ None
@@ -74,18 +75,18 @@ and-left-comm true b c = refl
 and-left-comm false b c = sym (and-false b)
 
 module _ (s : Settings) (b : List ℕ) where
-  by_kind : (t : Bool) → let l = cond t (container_layout b) (policy_layout b) in (is_none l.limits && (is_none (range_faults b l.runs) && is_none (order_faults b l.runs))) ≡ ((t || within 1 2 (byte_at b 1)) && valid_entry s (cond t (container (container_said b)) (policy (policy_said b))))
+  by_kind : (t : Bool) → let l = cond t (container_layout b) (policy_layout b) in (is_none (field_fault l.limits) && (is_none (range_faults b l.runs) && is_none (order_faults b l.runs))) ≡ ((t || within 1 2 (byte_at b 1)) && valid_entry s (cond t (container (container_said b)) (policy (policy_said b))))
   unfolding container_layout policy_layout container_said policy_said valid_entry
-  by_kind true = simp (clear-unless, clear-or_else, and-true, valid-clear)
-  by_kind false = simp (clear-unless, clear-or_else, and-true, valid-clear, false-or, and_assoc, and_comm, and-left-comm)
+  by_kind true = simp (clear-field, clear-or_else, and-true, valid-clear)
+  by_kind false = simp (clear-field, clear-or_else, and-true, valid-clear, false-or, and_assoc, and_comm, and-left-comm)
 
-  pub entry-clear : (is_none (layout_of b).limits && (is_none (range_faults b (layout_of b).runs) && is_none (order_faults b (layout_of b).runs))) ≡ ((is_container b || within 1 2 (byte_at b 1)) && valid_entry s (entry_said b))
+  pub entry-clear : (is_none (field_fault (layout_of b).limits) && (is_none (range_faults b (layout_of b).runs) && is_none (order_faults b (layout_of b).runs))) ≡ ((is_container b || within 1 2 (byte_at b 1)) && valid_entry s (entry_said b))
   unfolding layout_of entry_said
   entry-clear = by_kind (is_container b)
 
-pub settings-clear : (b : List ℕ) → is_none (settings_fault b) ≡ valid_settings (settings_said b)
-unfolding settings_fault settings_said valid_settings
-settings-clear b = simp (clear-unless, clear-or_else)
+pub settings-clear : (b : List ℕ) → is_none (field_fault (settings_fields b)) ≡ valid_settings (settings_said b)
+unfolding settings_fields settings_said valid_settings
+settings-clear b = simp (clear-field, and-true)
 
 pub settings-valid : (b : List ℕ) (s : Settings) → read_settings b ≡ accepted s → valid_settings s ≡ true
 settings-valid b s e =
@@ -97,7 +98,7 @@ module _ (s : Settings) (b : List ℕ) (e : Entry) (q : AcceptedAs s b e) where
   entry-passes =
       let r = (entry-accepted s b e).0 q in
       let l = layout_of b in
-      let c : (is_none l.limits && (is_none (range_faults b l.runs) && is_none (order_faults b l.runs))) ≡ true = rw (r.limits, r.ranges, r.orders) in
+      let c : (is_none (field_fault l.limits) && (is_none (range_faults b l.runs) && is_none (order_faults b l.runs))) ≡ true = rw (r.limits, r.ranges, r.orders) in
       (and-eq-true_iff (is_container b || within 1 2 (byte_at b 1)) (valid_entry s (entry_said b))).0 (sym (entry-clear s b) ∙ c)
 
   pub accepted-valid : valid_entry s e ≡ true

@@ -1,5 +1,5 @@
 -- A list of checks passes exactly if none of them finds a fault; and what a list of checks answers behind another.
-use mathlib.Core.Path.{◌≡◌, refl, ap, ◌∙◌}
+use mathlib.Core.Path.{◌≡◌, refl, ap, subst, ◌∙◌}
 use mathlib.Core.Logic.{◌↔◌}
 use mathlib.Core.Bool.{Bool, true, false, and-eq-true_iff}
 use mathlib.Core.List.{List, [], ◌∷◌, ◌++◌}
@@ -13,7 +13,7 @@ use Rattle.block.specs.declared.Reason.{Reason}
 use Rattle.block.specs.declared.Reason.TheVariants.{MemorySize, NotWellFormed, BlockLength, Checksum, Kind, Limit, Range, Order, Unused, BeyondTable, FreeSlot, TableFull, BufferLength, BatchLength}
 use Rattle.block.specs.declared.Refusal.{Refusal}
 use Rattle.block.specs.Fault.{unless}
-use Rattle.block.specs.Refusal.{reason_number, Check, refuse, first_refusal, accepted, read_unless}
+use Rattle.block.specs.Refusal.{reason_number, Check, check, refuse, first_refusal, accepted, read_unless}
 use Rattle.block.specs.Reader.{within}
 
 -- ---- no reason has the number 0
@@ -55,10 +55,6 @@ pub or_else-none : (f g : Option ℕ) → option_or f g ≡ None → (f ≡ None
 or_else-none None g e = (refl, e)
 or_else-none (Some p) g e = (cc, cc)
 
-pub or_else-nowhere : (f : Option ℕ) → option_or f None ≡ f
-or_else-nowhere None = refl
-or_else-nowhere (Some p) = refl
-
 -- ---- a list of checks
 
 -- every check finds no fault
@@ -85,6 +81,25 @@ module _ {A : Type 0} where
   accepted-clear cs x y =
       let h = accepted-passed (first_refusal cs) x y in
       (λ e. ((passed-clear cs).0 (h.0 e).0, (h.0 e).1), λ d. h.1 ((passed-clear cs).1 d.0, d.1))
+
+-- ---- what holds of every refusal of a list of checks
+
+-- whichever of the checks refuses, P holds of its refusal
+pub record EveryRefusal (P : Refusal → Type 0) (cs : List Check) : Type 0 where
+  pub holds : (f : Refusal) → first_refusal cs ≡ Err f → P f
+
+pub every-none : {P : Refusal → Type 0} → EveryRefusal P []
+every-none = record { holds = λ f e. cc }
+
+-- what the first check tells where it finds fault, and the others where it finds none
+pub every-next : {P : Refusal → Type 0} {w : Reason} {o : Option ℕ} {cs : List Check} → ((p : ℕ) → o ≡ Some p → P (record { reason = w; position = p })) → (o ≡ None → EveryRefusal P cs) → EveryRefusal P (check w o ∷ cs)
+every-next {P} {w} {o} {cs} at rest = record { holds = by o at rest }
+  where
+    by : (o : Option ℕ) → ((p : ℕ) → o ≡ Some p → P (record { reason = w; position = p })) → (o ≡ None → EveryRefusal P cs) → (f : Refusal) → refuse w o (first_refusal cs) ≡ Err f → P f
+    by None at rest f e = (rest refl).holds f e
+    by (Some p) at rest f e =
+        let q : record { reason = w; position = p } ≡ f = cc in
+        subst P q (at p refl)
 
 -- ---- the checks of one list, then those of another
 

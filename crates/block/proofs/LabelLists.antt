@@ -1,6 +1,6 @@
 -- Labels in a block: no fault of range or order exactly where the labels that are read are in range and rising.
 use mathlib.Core.Path.{◌≡◌, refl, sym, ap, ◌∙◌}
-use mathlib.Core.Bool.{Bool, true, ◌&&◌}
+use mathlib.Core.Bool.{Bool, true, ◌&&◌, and-true}
 use mathlib.Core.List.{List, [], ◌∷◌, ◌++◌}
 use Prim.Native.Nat.{ℕ, zero, suc, ◌+◌, ◌-◌, ◌*◌}
 use native.Mathlib.Nat.{add-zero, add_assoc, sub-zero, add-sub_cancel, div-add-mod'}
@@ -14,7 +14,7 @@ use Rattle.block.specs.Fault.{first_from}
 use Rattle.block.specs.Bytes.{number_at}
 use Rattle.block.specs.Reader.{label_fault, range_fault, rise_fault, order_fault, label_at, labels_at}
 use Rattle.block.specs.Written.{number_bytes, label_bytes, in_range, all_in_range, rising_after, rising, valid_labels}
-use Rattle.block.proofs.Faults.{clear-unless, clear-or_else}
+use Rattle.block.proofs.Faults.{clear-unless, clear-or_else, clear-field}
 
 -- a test over n positions, each 4 past the last, is the search for a fault over them
 module _ (f : ℕ → Option ℕ) (test : ℕ → ℕ → Bool) (at : ℕ) where
@@ -27,7 +27,7 @@ module _ (f : ℕ → Option ℕ) (test : ℕ → ℕ → Bool) (at : ℕ) where
 module _ (b : List ℕ) where
   label-clear : (p : ℕ) → is_none (label_fault b p) ≡ in_range (label_at b p)
   unfolding label_fault in_range label_at
-  label-clear p = simp (clear-or_else, clear-unless)
+  label-clear p = simp (clear-field, and-true)
 
   range_clear : (at n : ℕ) → is_none (range_fault b at n) ≡ all_in_range (labels_at b at n)
   unfolding range_fault

@@ -8,3 +8,5 @@ pub mod Accepted
 pub mod Sealed
 pub mod Written
 pub mod Cut
+pub mod Limits
+pub mod Positions

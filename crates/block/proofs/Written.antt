@@ -13,7 +13,7 @@ use Rattle.block.specs.declared.Direction.TheVariants.{Ingress as ingress, Egres
 use Rattle.std.specs.Prelude.{None}
 use Rattle.block.specs.Entry.{Label, Policy, Settings, Entry, container, policy}
 use Rattle.block.specs.Bytes.{byte_at}
-use Rattle.block.specs.Reader.{within, zero_fault, unused_fault, is_container, layout_of, container_layout, policy_layout, direction_of, container_said, policy_said, entry_said, settings_said, read_settings, read_entry}
+use Rattle.block.specs.Reader.{within, zero_fault, unused_fault, is_container, layout_of, container_layout, policy_layout, direction_of, container_said, policy_said, entry_said, settings_unused, settings_said, read_settings, read_entry}
 use Rattle.block.specs.Refusal.{accepted}
 use Rattle.block.specs.Written.{number_bytes, sealed, label_bytes, direction_number, block_of, settings_block, valid_labels, valid_entry, valid_settings}
 use Rattle.block.proofs.Faults.{clear_none}
@@ -92,7 +92,7 @@ entry-reads s (policy p) v =
     reads s (policy p) front h (entry-back (policy p)) v (rw sealed-begins) (rw (sealed-begins, direction-number)) (u ∙ rw w)
 
 settings-reads : (s : Settings) → valid_settings s ≡ true → SettingsRead (settings_block s) s
-unfolding settings_block
+unfolding settings_block settings_unused
 settings-reads s v =
     let front : List ℕ = 83 ∷ s.user_key ∷ s.system_key ∷ 0 ∷ number_bytes s.system_value in
     let h : length front ≤ 510 = omega arith in

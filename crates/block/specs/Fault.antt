@@ -21,3 +21,15 @@ module _ {A : Type 0} where
   abbrev pub first_in : (A → Option ℕ) → List A → Option ℕ
   first_in f [] = None
   first_in f (x ∷ xs) = option_or (f x) (first_in f xs)
+
+-- A field that a check asks about: the byte at which it begins, and whether it is as the check wants it.
+pub record Field : Type 0 where
+  pub at : ℕ
+  pub fits : Bool
+
+abbrev pub field : ℕ → Bool → Field
+field p t = record { at = p; fits = t }
+
+-- the first of these fields that is at fault
+abbrev pub field_fault : List Field → Option ℕ
+field_fault fs = first_in (λ x. unless x.fits x.at) fs

@@ -5,6 +5,7 @@ pub mod Checksum
 pub mod Fault
 pub mod Refusal
 pub mod Reader
+pub mod Positions
 pub mod Written
 pub mod Cut
 pub mod Reading

@@ -2,11 +2,10 @@
 use Rattle.block.specs.declared.Direction.{Direction}
 use Rattle.block.specs.declared.Direction.TheVariants.{Ingress as ingress, Egress as egress}
 use Rattle.std.specs.Prelude.{◌≡◌, Bool, ◌&&◌, ◌||◌, cond, List, [], ◌∷◌, ◌++◌, ℕ, zero, suc, ◌+◌, ◌-◌, ◌*◌, eqb, leb, ltb, length, Option}
-use Rattle.std.specs.Option.{option_or}
 use Rattle.block.specs.declared.Reason.TheVariants.{BlockLength, Checksum, Kind, Limit, Range, Order, Unused}
 use Rattle.block.specs.Entry.{Label, Container, Policy, Settings, Entry, container, policy}
 use Rattle.block.specs.Bytes.{byte_at, number_at, checksum}
-use Rattle.block.specs.Fault.{unless, first_between, first_in}
+use Rattle.block.specs.Fault.{unless, first_between, first_in, Field, field, field_fault}
 use Rattle.block.specs.Refusal.{Check, check, first_refusal, Read, accepted, read_unless}
 
 -- low ≤ x ≤ high
@@ -21,10 +20,12 @@ pub record Run : Type 0 where
   pub count : ℕ
 
 -- the label whose key stands at p: its key 1 to 64, its value 1 to 65535
+abbrev pub label_fields : List ℕ → ℕ → List Field
+label_fields b p = field p (within 1 64 (number_at b p)) ∷ field (p + 2) (within 1 65535 (number_at b (p + 2))) ∷ []
+
+-- the first of the two at fault
 unfoldable pub label_fault : List ℕ → ℕ → Option ℕ
-label_fault b p =
-    option_or (unless (within 1 64 (number_at b p)) p)
-    (unless (within 1 65535 (number_at b (p + 2))) (p + 2))
+label_fault b p = field_fault (label_fields b p)
 
 -- the first key or value out of range, of n labels from `at`
 unfoldable pub range_fault : List ℕ → ℕ → ℕ → Option ℕ
@@ -72,8 +73,8 @@ unused_fault b us = first_in (λ u. zero_fault b u.from u.to) us
 -- ---- how an admission block is laid out
 
 pub record Layout : Type 0 where
-  -- 6. "A label count is above its limit or a direction is neither 1 nor 2": the first field at fault
-  pub limits : Option ℕ
+  -- 6. "A label count is above its limit or a direction is neither 1 nor 2."
+  pub limits : List Field
   pub runs : List Run
   pub unused : List Span
 
@@ -82,7 +83,7 @@ unfoldable pub container_layout : List ℕ → Layout
 container_layout b =
     let n = byte_at b 1 in
     record {
-      limits = unless (leb n 8) 1;
+      limits = field 1 (leb n 8) ∷ [];
       runs = record { start = 4; count = n } ∷ [];
       unused = record { from = 2; to = 4 } ∷ record { from = 4 + 4 * n; to = 510 } ∷ [];
     }
@@ -94,7 +95,7 @@ policy_layout b =
     let m = byte_at b 2 in
     let n = byte_at b 3 in
     record {
-      limits = option_or (unless (within 1 2 (byte_at b 1)) 1) (option_or (unless (leb m 4) 2) (unless (leb n 4) 3));
+      limits = field 1 (within 1 2 (byte_at b 1)) ∷ field 2 (leb m 4) ∷ field 3 (leb n 4) ∷ [];
       runs = record { start = 4; count = m } ∷ record { start = 4 + 4 * m; count = n } ∷ [];
       unused = record { from = 4 + 4 * (m + n); to = 510 } ∷ [];
     }
@@ -123,13 +124,14 @@ entry_said b = cond (is_container b) (container (container_said b)) (policy (pol
 
 -- 7, of settings: "byte 1 the user key, 1 to 64; byte 2 the system key, 0 for none, else 1 to 64; bytes 4 and 5 the system
 -- value, 0 with system key 0, else 1 to 65535"
-unfoldable pub settings_fault : List ℕ → Option ℕ
-settings_fault b =
+unfoldable pub settings_fields : List ℕ → List Field
+settings_fields b =
     let key = byte_at b 2 in
     let value = number_at b 4 in
-    option_or (unless (within 1 64 (byte_at b 1)) 1)
-    (option_or (unless (leb key 64) 2)
-    (unless (cond (eqb key 0) (eqb value 0) (within 1 65535 value)) 4))
+    field 1 (within 1 64 (byte_at b 1)) ∷ field 2 (leb key 64) ∷ field 4 (cond (eqb key 0) (eqb value 0) (within 1 65535 value)) ∷ []
+
+unfoldable pub settings_unused : List Span
+settings_unused = record { from = 3; to = 4 } ∷ record { from = 6; to = 510 } ∷ []
 
 unfoldable pub settings_said : List ℕ → Settings
 settings_said b = record { user_key = byte_at b 1; system_key = byte_at b 2; system_value = number_at b 4 }
@@ -148,8 +150,8 @@ unfoldable pub settings_checks : List ℕ → List Check
 settings_checks b =
     frame b
     ++ (check Kind (unless (eqb (byte_at b 0) 83) 0)
-    ∷ check Range (settings_fault b)
-    ∷ check Unused (unused_fault b (record { from = 3; to = 4 } ∷ record { from = 6; to = 510 } ∷ []))
+    ∷ check Range (field_fault (settings_fields b))
+    ∷ check Unused (unused_fault b settings_unused)
     ∷ [])
 
 -- Admit's block meets 3 to 9. No check asks for the settings yet.
@@ -158,7 +160,7 @@ entry_checks s b =
     let l = layout_of b in
     frame b
     ++ (check Kind (unless (is_container b || eqb (byte_at b 0) 80) 0)
-    ∷ check Limit l.limits
+    ∷ check Limit (field_fault l.limits)
     ∷ check Range (range_faults b l.runs)
     ∷ check Order (order_faults b l.runs)
     ∷ check Unused (unused_fault b l.unused)

@@ -21,6 +21,10 @@ reason_number TableFull = 12
 reason_number BufferLength = 13
 reason_number BatchLength = 14
 
+-- a refusal that is of no place in a block
+abbrev pub lone_refusal : Reason → Refusal
+lone_refusal w = record { reason = w; position = 0 }
+
 -- A check that a call meets: the reason of its refusal, and where its condition holds.
 pub record Check : Type 0 where
   pub reason : Reason

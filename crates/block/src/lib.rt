@@ -4,7 +4,7 @@
 
 ghost use Rattle.std.specs.Prelude.{◌≡◌};
 ghost use Rattle.block.specs.Reader.{direction_of};
-ghost use Rattle.block.specs.Refusal.{reason_number};
+ghost use Rattle.block.specs.Refusal.{reason_number, lone_refusal};
 ghost use Rattle.block.specs.Written.{direction_number};
 
 // Why a call or a block is refused, each with its number in document 01's list, the last two in document 02.
@@ -36,19 +36,23 @@ impl Reason {
     }
 }
 
-// A refusal of a block: its reason, and the position at fault in the block, 0 where there is none.
-// Kept: 0 and no `Option`: each check of the definitions has a position, and those without one have 0 (`model` `where0`).
+// A refusal of a call that is lent a block: its reason, and the position at fault in the block, 0 where there is none.
+// Kept: 0 and no `Option`: document 02, Note 5, has 0 for those.
 #[derive(Clone, Copy, PartialEq, Eq)]
 pub struct Refusal {
     pub reason: Reason,
     pub position: usize,
 }
 
-impl From<Refusal> for Reason {
-    ghost from_gives = { λ refusal reason. reason ≡ refusal.reason };
+// A refusal that is of no place in a block.
+impl From<Reason> for Refusal {
+    ghost from_gives = { λ reason refusal. refusal ≡ lone_refusal reason };
 
-    fn from(refusal: Refusal) -> Reason {
-        refusal.reason
+    fn from(reason: Reason) -> Refusal {
+        Refusal {
+            reason,
+            position: 0,
+        }
     }
 }
 

@@ -4,12 +4,10 @@ use mathlib.Core.List.{List}
 use Prim.Native.Nat.{ℕ, zero, suc, ◌+◌, ◌-◌, ◌*◌, ◌≤◌, ◌<◌, ◌%◌}
 use native.Mathlib.Nat.{le_refl, add-zero, add-suc, zero-mul}
 use native.Mathlib.Omega.{arith}
-use Rattle.std.specs.Prelude.{Option, None}
-use Rattle.std.specs.Option.{option_or}
+use Rattle.std.specs.Prelude.{None}
 use Rattle.block.specs.Bytes.{byte_at, weighted, checksum}
-use Rattle.block.specs.Fault.{first_between}
 use Rattle.block.specs.Reader.{zero_fault}
-use Rattle.block.proofs.Faults.{faults-next, faults-done, between_none}
+use Rattle.block.proofs.Faults.{faults-done, faults-before, between_none}
 use Rattle.block.proofs.Checks.{equal-none}
 use Rattle.block_bytes.specs.Used.{UsedEnd}
 
@@ -39,15 +37,7 @@ pub used-checksum : (b : List ℕ) (e : ℕ) → UsedEnd b e → checksum b ≡ 
 unfolding checksum
 used-checksum b e u = ap (λ (s : ℕ). s % 65521) (weighed b e 510 u.high u.rest)
 
--- ---- a search that may end at e
-
-shorter : (f : ℕ → Option ℕ) (e to : ℕ) → e ≤ to → first_between f e to ≡ None → (d from : ℕ) → from + d ≡ e → first_between f from e ≡ first_between f from to
-shorter f e to l h zero from q =
-    let p : e ≡ from = omega arith in
-    faults-done f from e (omega arith) ∙ sym h ∙ ap (λ (k : ℕ). first_between f k to) p
-shorter f e to l h (suc d) from q =
-    faults-next f from e (omega arith) ∙ ap (option_or (f from)) (shorter f e to l h d (from + 1) (omega arith)) ∙ sym (faults-next f from to (omega arith))
-
+-- a search that may end at e
 pub used-zeros : (b : List ℕ) (e from : ℕ) → UsedEnd b e → from ≤ e → zero_fault b from e ≡ zero_fault b from 510
 unfolding zero_fault
-used-zeros b e from u h = shorter _ e 510 u.high u.rest (e - from) from (omega arith)
+used-zeros b e from u h = sym (faults-before _ e 510 u.high from h u.rest)

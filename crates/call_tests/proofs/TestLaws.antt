@@ -15,7 +15,7 @@ use Rattle.block.specs.declared.Reason.{Reason}
 use Rattle.block.specs.declared.Reason.TheVariants.{MemorySize, NotWellFormed, BeyondTable, FreeSlot}
 use Rattle.block.specs.declared.Sort.{Sort}
 use Rattle.block.specs.Entry.{Settings, Entry, container, policy}
-use Rattle.block.specs.Refusal.{reason_number, check, first_refusal, Read, refused, accepted, read_unless}
+use Rattle.block.specs.Refusal.{reason_number, lone_refusal, check, first_refusal, Read, refused, accepted, read_unless}
 use Rattle.block.specs.Reader.{entry_checks, is_container, container_said, policy_said, entry_said, read_entry, AcceptedAs}
 use Rattle.block.specs.Reading.{sort_of, read_sort}
 use Rattle.model.specs.Table.{Table, is_free, at, free}
@@ -34,10 +34,15 @@ use Rattle.call_tests.specs.Tests.{reason_of, memory_test, slot_test, said_as}
 
 -- ---- a test's answer
 
--- the refusal whose reason a test gives
-pub reason_for : {A : Type 0} (o : Result A Refusal) {r : Reason} → reason_of o ≡ Err r → (f : Refusal) × (o ≡ Err f) × (f.reason ≡ r)
-reason_for (Ok x) e = cc
-reason_for (Err f) {r} e = (f, refl, let h : f.reason ≡ r = cc in h)
+-- two conditions of no place in a block, one after the other
+abbrev pub two_tests : Reason → Bool → Reason → Bool → Result ⊤ Refusal
+two_tests v s w t = first_refusal (check v (where0 s) ∷ check w (where0 t) ∷ [])
+
+-- the reason that a test gives is the whole refusal
+pub reason_for : (v : Reason) (s : Bool) (w : Reason) (t : Bool) {r : Reason} → reason_of (two_tests v s w t) ≡ Err r → two_tests v s w t ≡ Err (lone_refusal r)
+reason_for v true w t {r} e = let h : v ≡ r = cc in ap (λ x. Err (lone_refusal x)) h
+reason_for v false w true {r} e = let h : w ≡ r = cc in ap (λ x. Err (lone_refusal x)) h
+reason_for v false w false e = cc
 
 pub passed_for : {A : Type 0} (o : Result A Refusal) {x : A} → reason_of o ≡ Ok x → o ≡ Ok x
 passed_for (Ok y) e = cc
@@ -56,21 +61,20 @@ module _ (m : List ℕ) where
       ap (λ s. reason_of (first_refusal (check MemorySize (where0 (not s)) ∷ formed_check m))) (eq-eqb (length m) memory_words h)
       ∙ ap (λ t. reason_of (first_refusal (check NotWellFormed (where0 (not t)) ∷ []))) w
 
-  pub memory-refused : (r : Reason) → memory_test m ≡ Err r → (call : Call) → meets_formed m call ≡ formed_check m → memory_step m call ≡ (m, refusal (reason_number r))
+  pub memory-refused : (r : Reason) → memory_test m ≡ Err r → (call : Call) → meets_formed m call ≡ formed_check m → memory_step m call ≡ (m, refusal (reason_number r) 0)
   unfolding memory_test memory_step memory_refusals or_refusal
   memory-refused r e call o =
       let size = check MemorySize (where0 (other_size m)) in
       let rest = refusals (registry_in m) call in
-      let f = reason_for (first_refusal (size ∷ formed_check m)) e in
+      let f = reason_for MemorySize (other_size m) NotWellFormed (not (well_formed m)) e in
       ap (λ cs. memory_outcome m call (first_refusal (size ∷ (cs ++ rest)))) o
-      ∙ ap (memory_outcome m call) (first-append (size ∷ formed_check m) rest ∙ ap (λ t. or_refusal t (first_refusal rest)) f.1)
-      ∙ ap (λ w. (m, refusal (reason_number w))) f.2
+      ∙ ap (memory_outcome m call) (first-append (size ∷ formed_check m) rest ∙ ap (λ t. or_refusal t (first_refusal rest)) f)
 
 -- ---- 10 and 11
 
 -- beyond the table, and free
 abbrev pub slot_tests : Bool → Bool → Result ⊤ Refusal
-slot_tests s t = first_refusal (check BeyondTable (where0 s) ∷ check FreeSlot (where0 t) ∷ [])
+slot_tests s t = two_tests BeyondTable s FreeSlot t
 
 module _ (size : ℕ) (f : ℕ → Bool) (i : ℕ) where
   pub test-beyond : leb size i ≡ true → slot_test size f i ≡ Err BeyondTable
@@ -130,12 +134,11 @@ module _ {A : Type 0} {m : List ℕ} {start words n : ℕ} {entry : ℕ → A} {
 
   -- a call that meets the checks of one slot alone
   pub slot-refused : well_formed m ≡ true → (call : Call) (i : ℕ) {r : Reason} → refusals (registry_in m) call ≡ slot_checks n t i → test i ≡ Err r
-      → memory_step m call ≡ (m, refusal (reason_number r))
+      → memory_step m call ≡ (m, refusal (reason_number r) 0)
   unfolding slot_test
   slot-refused formed call i {r} o e =
-      let f = reason_for (slot_tests (leb n i) (free_in m start words i)) e in
-      step-refused m formed call f.0 (ap first_refusal o ∙ slot-checks n (free_in m start words) i t (tabled-free i) ∙ f.1)
-      ∙ ap (λ w. (m, refusal (reason_number w))) f.2
+      let f = reason_for BeyondTable (leb n i) FreeSlot (free_in m start words i) e in
+      step-refused m formed call (lone_refusal r) (ap first_refusal o ∙ slot-checks n (free_in m start words) i t (tabled-free i) ∙ f)
 
 -- ---- 3 to 9
 

@@ -57,35 +57,44 @@ accepted_as (ask counts) w n = counted_of n
 accepted_as (ask audit) w n = says (truth_of n)
 accepted_as (ask (write k)) w n = file_put w
 
--- the refusal of that number, or a where it is 0
-abbrev pub refusal_or : ℕ → Answer → Answer
-refusal_or zero a = a
-refusal_or (suc n) a = refusal (suc n)
+-- the refusal of that number at p, or a where it is 0
+abbrev pub refusal_or : ℕ → ℕ → Answer → Answer
+refusal_or zero p a = a
+refusal_or (suc n) p a = refusal (suc n) p
+
+-- what stands in the low 16 bits
+unfoldable pub low_bits : ℕ → ℕ
+low_bits n = n % 65536
 
 -- the call's answer, by what was written and the number
 abbrev pub decoded : Call → List ℕ → ℕ → Answer
-decoded call w n = refusal_or (top_byte w n) (accepted_as call w n)
+decoded call w n = refusal_or (top_byte w n) (low_bits n) (accepted_as call w n)
 
 -- ---- the answers that their numbers say
 
 -- the number of a, which says x where the call was accepted, says a
 abbrev pub Decodes : Answer → Answer → Type 0
-Decodes x a = refusal_or (top_byte (written a) (code_of a)) x ≡ a
+Decodes x a = refusal_or (top_byte (written a) (code_of a)) (low_bits (code_of a)) x ≡ a
 
-top-refusal : (n : ℕ) → top_byte [] (code_of (refusal n)) ≡ n
-unfolding top_byte refusal_code
-top-refusal n = omega arith
+module _ (n p : ℕ) (few : p ≤ 510) where
+  top-refusal : top_byte [] (code_of (refusal n p)) ≡ n
+  unfolding top_byte refusal_code
+  top-refusal = omega arith
 
-pub decodes-refusal : (x : Answer) (n : ℕ) → 0 < n → Decodes x (refusal n)
-decodes-refusal x n h = ap (λ k. refusal_or k x) (top-refusal n) ∙ pick n h
-  where
-    pick : (k : ℕ) → 0 < k → refusal_or k x ≡ refusal k
-    pick zero h = absurd (omega arith)
-    pick (suc k) h = refl
+  low-refusal : low_bits (code_of (refusal n p)) ≡ p
+  unfolding low_bits refusal_code
+  low-refusal = omega arith
+
+  pub decodes-refusal : (x : Answer) → 0 < n → Decodes x (refusal n p)
+  decodes-refusal x h = ap₂ (λ k q. refusal_or k q x) top-refusal low-refusal ∙ pick n h
+    where
+      pick : (k : ℕ) → 0 < k → refusal_or k p x ≡ refusal k p
+      pick zero h = absurd (omega arith)
+      pick (suc k) h = refl
 
 -- of an accepted call: its number is below the top byte, or something was written
 pub decodes-accepted : (x a : Answer) → top_byte (written a) (code_of a) ≡ 0 → x ≡ a → Decodes x a
-decodes-accepted x a t e = ap (λ k. refusal_or k x) t ∙ e
+decodes-accepted x a t e = ap (λ k. refusal_or k (low_bits (code_of a)) x) t ∙ e
 
 top_small : (n : ℕ) → n < 72057594037927936 → top_byte [] n ≡ 0
 unfolding top_byte

@@ -18,7 +18,7 @@ use Rattle.model.specs.Table.{at, lowest_free}
 use Rattle.model.specs.Findings.{Place, containers_of, policies_of, findings, place_of, walk, moved, finding_code, pairs}
 use Rattle.model.specs.Calls.{ask_reaches, ask_user, next_finding, list_findings, counts, audit, write}
 use Rattle.model.specs.Calls.{Call, open_with, change, admit, admit_batch, remove_container, remove_policy, rebuild, ask}
-use Rattle.model.specs.Calls.{Answer, refusal, done, container_at, policy_at, says, no_finding, found, findings_put, counted, file_put, batch_put, found_answer, findings_answer, numbers_of, written, run}
+use Rattle.model.specs.Calls.{Answer, refusal, refusal_of, done, container_at, policy_at, says, no_finding, found, findings_put, counted, file_put, batch_put, found_answer, findings_answer, numbers_of, written, run}
 use Rattle.model.specs.Batch.{pair_of, tallied, batch_answer}
 use Rattle.model.specs.File.{file_of}
 use Rattle.model.specs.RegistryStep.{admit_container, admit_policy, admit_entry, admit_block, take_policy, answer_to, accepted_step}
@@ -32,6 +32,7 @@ use Rattle.steps.specs.MemoryStep.{memory_refusals, memory_outcome, memory_step}
 use Rattle.block.proofs.Checks.{reason-positive}
 use Rattle.codes.specs.Codes.{code_of}
 use Rattle.steps.proofs.Outcomes.{container-slot-below, policy-slot-below}
+use Rattle.steps.proofs.Positions.{memory-within}
 use Rattle.codes.proofs.Few.{containers-few, policies-few, pairs-fit}
 use Rattle.codes.proofs.Decoded.{finding_of, counted_of, found_of, truth_of, slot_of, accepted_as, decoded, Decodes, decodes-refusal, decodes-accepted, InRange}
 use Rattle.codes.proofs.Decoded.{top-done, top-none, top-container, top-policy, top-truth, truth-back, top-found, none-back, found_back, top-put, findings-back, top-counted, counted_back, top-file, top-zero}
@@ -77,17 +78,17 @@ module _ (m : List ℕ) where
     where
       pick : (o : Option ℕ) → lowest_free (model_in m).containers ≡ o
           → Decodes (container_at (code_of (admit_container (registry_in m) x o).1)) (admit_container (registry_in m) x o).1
-      pick none e = decodes-refusal (container_at (code_of (refusal 12))) 12 (omega arith)
+      pick none e = decodes-refusal 12 0 (omega arith) (container_at (code_of (refusal 12 0))) (omega arith)
       pick (some c) e = decodes-accepted (container_at c) (container_at c) (top-container c (container-slot-below m c e)) refl
   decodes-entry (policy p) = pick (lowest_free (model_in m).policies) refl
     where
       pick : (o : Option ℕ) → lowest_free (model_in m).policies ≡ o → Decodes (policy_at (code_of (admit_policy (registry_in m) p o).1)) (admit_policy (registry_in m) p o).1
-      pick none e = decodes-refusal (policy_at (code_of (refusal 12))) 12 (omega arith)
+      pick none e = decodes-refusal 12 0 (omega arith) (policy_at (code_of (refusal 12 0))) (omega arith)
       pick (some q) e = decodes-accepted (policy_at q) (policy_at q) (top-policy q (policy-slot-below m q e)) refl
 
   decodes-taken : (q : ℕ) (o : Option Policy) → Decodes done (take_policy (registry_in m) q o).1
   unfolding take_policy
-  decodes-taken q none = decodes-refusal done 11 (omega arith)
+  decodes-taken q none = decodes-refusal 11 0 (omega arith) done (omega arith)
   decodes-taken q (some p) = decodes-done
 
   decodes-next : (c : Place) (o : Option Finding) → next_in m c ≡ o → Decodes (found_of (code_of (found_answer o))) (found_answer o)
@@ -132,4 +133,4 @@ module _ (m : List ℕ) where
       pick : (o : Result ⊤ Refusal) → first_refusal (memory_refusals m call) ≡ o → let a = (memory_outcome m call o).1 in decoded call (written a) (code_of a) ≡ a
       pick (Ok tt) e = decodes-step call
       pick (Err f) e =
-          decodes-refusal (accepted_as call [] (code_of (refusal (reason_number f.reason)))) (reason_number f.reason) (reason-positive f.reason)
+          decodes-refusal (reason_number f.reason) f.position (memory-within m call f e) (accepted_as call [] (code_of (refusal_of f))) (reason-positive f.reason)

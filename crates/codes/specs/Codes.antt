@@ -4,9 +4,9 @@ use Rattle.model.specs.Findings.{finding_code}
 use Rattle.model.specs.Calls.{Call, Answer, refusal, done, container_at, policy_at, says, found, no_finding, findings_put, counted, file_put, batch_put}
 use Rattle.steps.specs.MemoryStep.{memory_step}
 
--- the refusal's number in the top byte
-unfoldable pub refusal_code : ℕ → ℕ
-refusal_code n = n * 72057594037927936
+-- the refusal's number in the top byte, the position at fault in the low 16 bits
+unfoldable pub refusal_code : ℕ → ℕ → ℕ
+refusal_code n p = n * 72057594037927936 + p
 
 -- containers + policies * 2^16 + PAIRS * 2^32
 unfoldable pub counts_code : ℕ → ℕ → ℕ → ℕ
@@ -17,7 +17,7 @@ truth_code true = 1
 truth_code false = 0
 
 abbrev pub code_of : Answer → ℕ
-code_of (refusal n) = refusal_code n
+code_of (refusal n p) = refusal_code n p
 code_of done = 0
 code_of (container_at c) = c
 code_of (policy_at q) = q

@@ -31,18 +31,18 @@ pub fn lines_in(room: usize) -> usize
 #[tactic(auto, unfolding(sheets::specs::Pieces::blocks_at_once))]
 pub fn blocks_at_once(room: usize, bytes: usize, n: u64) -> usize
     ensures value { result ≡ blocks_at_once room bytes n }
-    ensures upper_bound { (result ≤ 128) × (512 * result ≤ bytes) × (64 * result ≤ room) × (n + result ≤ 18446744073709551615) }
+    ensures upper_bound { (result ≤ 128) × (512 * result ≤ bytes) × (72 * result ≤ room) × (n + result ≤ 18446744073709551615) }
 {
     // Kept: a `usize` has the 64 bits of the number, and so a test, as `try_from` makes, would never fail.
     let numbers = (u64::MAX - n) as usize;
-    (bytes / 512).min(room / 64).min(numbers).min(128)
+    (bytes / 512).min(room / 72).min(numbers).min(128)
 }
 
 // The same, where f bytes of the next block have come: the first block, and one that is started, are taken alone.
 #[tactic(auto, unfolding(sheets::specs::Pieces::whole_blocks))]
 pub fn whole_blocks(room: usize, bytes: usize, n: u64, f: usize) -> usize
     ensures value { result ≡ whole_blocks room bytes n f }
-    ensures upper_bound { (result ≤ 128) × (512 * result ≤ bytes) × (64 * result ≤ room) × (n + result ≤ 18446744073709551615) }
+    ensures upper_bound { (result ≤ 128) × (512 * result ≤ bytes) × (72 * result ≤ room) × (n + result ≤ 18446744073709551615) }
 {
     if n == 0 {
         return 0;
@@ -68,6 +68,6 @@ pub fn end_after(out: &mut [u8], n: u64) -> Told
     }
     Told {
         state: State::Finished,
-        put: text::put_refusal(out, 1, Reason::BlockLength),
+        put: text::put_refusal(out, 1, Reason::BlockLength.into()),
     }
 }

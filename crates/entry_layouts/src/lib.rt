@@ -2,8 +2,10 @@
 #![tactic(auto)]
 
 ghost use Rattle.std.specs.Prelude.{◌≡◌};
+ghost use Rattle.block.specs.Fault.{field_fault};
 ghost use Rattle.block.specs.Refusal.{first_refusal};
 ghost use Rattle.block.specs.Reader.{container_layout, policy_layout};
+ghost use Rattle.block.specs.Positions.{First, FieldAt};
 ghost use Rattle.block_bytes.specs.Used.{UsedEnd};
 ghost use Rattle.layouts.specs.Steps.{layout_checks};
 
@@ -12,6 +14,16 @@ use block_bytes::Span;
 use faults::Run;
 use layouts::Body;
 
+// The first field at fault: a container has one, its count.
+// Kept: as at `container_test`.
+#[tactic(auto, using(block::proofs::Positions::firsts), unfolding(block::specs::Reader::container_layout))]
+fn container_limits(block: &[u8; 512]) -> Option<usize>
+    ensures value { result ≡ field_fault (container_layout block.now).limits }
+    ensures first { First (FieldAt (container_layout block.now).limits) result }
+{
+    faults::unless(block[1] <= 8, 1)
+}
+
 // The rest of the unused bytes is looked at up to `end` only: behind it all are zero.
 // Kept: two functions for two layouts: one would ask which it is at each field, since a policy has a direction and two runs of labels, a
 // container one; the tests that both need are one, `layout_test`.
@@ -19,7 +31,6 @@ pub fn container_test(block: &[u8; 512], end: usize) -> Result<(), Refusal>
     requires { UsedEnd block.now end }
     ensures { result ≡ first_refusal (layout_checks block.now (container_layout block.now)) }
 {
-    let limits = faults::unless(block[1] <= 8, 1);
     let count = usize::from(block[1]);
     let from = 4 + 4 * count;
     let body = Body {
@@ -31,13 +42,15 @@ pub fn container_test(block: &[u8; 512], end: usize) -> Result<(), Refusal>
         head: Span { from: 2, to: 4 },
         rest: Span { from, to: end },
     };
-    layouts::layout_test(block, limits, body)
+    layouts::layout_test(block, container_limits(block), body)
 }
 
-// The direction, then the two counts.
-#[tactic(auto, unfolding(block::specs::Reader::policy_layout))]
+// The first field at fault: the direction, then the two counts.
+// Kept: as at `container_test`.
+#[tactic(auto, using(block::proofs::Positions::firsts), unfolding(block::specs::Reader::policy_layout))]
 fn policy_limits(block: &[u8; 512]) -> Option<usize>
-    ensures { result ≡ (policy_layout block.now).limits }
+    ensures value { result ≡ field_fault (policy_layout block.now).limits }
+    ensures first { First (FieldAt (policy_layout block.now).limits) result }
 {
     let direction = faults::unless(block_bytes::within(1, 2, u64::from(block[1])), 1);
     let select = faults::unless(block[2] <= 4, 2);

@@ -6,6 +6,7 @@ ghost use Rattle.std.specs.Result.{result_and};
 ghost use Rattle.block.specs.Fault.{unless, first_between};
 ghost use Rattle.block.specs.Refusal.{refuse};
 ghost use Rattle.block.specs.Reader.{label_fault, range_fault, rise_fault, order_fault, zero_fault};
+ghost use Rattle.block.specs.Positions.{First, RangeAt, OrderAt, UnusedAt};
 
 use block::{Reason, Refusal};
 use block_bytes::Span;
@@ -53,12 +54,13 @@ fn label_fault(block: &[u8], p: usize) -> Option<usize>
     ))
 }
 
-// The first key or value out of range.
+// The first key or value out of range, by its first byte.
 // Kept: this and `order_fault` are two rules of the format; the search that they share is `first_between`.
-#[tactic(auto, unfolding(block::specs::Reader::range_fault))]
+#[tactic(auto, using(block::proofs::Positions::firsts), unfolding(block::specs::Reader::range_fault))]
 pub fn range_fault(block: &[u8], run: Run) -> Option<usize>
     requires { run.start + 4 * run.count ≤ length block.now }
-    ensures { result ≡ range_fault block.now run.start run.count }
+    ensures value { result ≡ range_fault block.now run.start run.count }
+    ensures first { First (RangeAt block.now (record { start = run.start; count = run.count })) result }
 {
     first_between(0, run.count, |k| label_fault(block, run.start + 4 * k))
 }
@@ -74,26 +76,49 @@ fn rise_fault(block: &[u8], p: usize) -> Option<usize>
     unless(before < key, p)
 }
 
-// The first key that does not rise.
+// The first key that does not rise, by its first byte.
 // Kept: as at `range_fault`.
-#[tactic(auto, unfolding(block::specs::Reader::order_fault))]
+#[tactic(auto, using(block::proofs::Positions::firsts), unfolding(block::specs::Reader::order_fault))]
 pub fn order_fault(block: &[u8], run: Run) -> Option<usize>
     requires { run.start + 4 * run.count ≤ length block.now }
-    ensures { result ≡ order_fault block.now run.start run.count }
+    ensures value { result ≡ order_fault block.now run.start run.count }
+    ensures first { First (OrderAt block.now (record { start = run.start; count = run.count })) result }
 {
     first_between(1, run.count, |k| rise_fault(block, run.start + 4 * k))
 }
 
-// The first byte that is not zero, looked for only where there is one.
-#[tactic(auto, unfolding(block::specs::Reader::zero_fault))]
+// Where the lowest byte that is not zero is looked for one by one: behind the pieces of 32 bytes that are zero, as long as more follow.
+// Kept: a `while`: by `chunks_exact` the place of a piece would have to be carried back to the block's, and a `for` over numbers steps by one.
+fn search_start(block: &[u8], span: Span) -> usize
+    requires { span.to ≤ length block.now }
+    ensures { zero_fault block.now result span.to ≡ zero_fault block.now span.from span.to }
+{
+    let mut from = span.from;
+    while span.to.saturating_sub(from) > 32 {
+        let piece = Span {
+            from,
+            to: from + 32,
+        };
+        if block_bytes::joined(block, piece) != 0 {
+            break;
+        }
+        from += 32;
+    }
+    from
+}
+
+// The lowest byte that is not zero, looked for only where there is one.
+#[tactic(auto, using(block::proofs::Positions::firsts), unfolding(block::specs::Reader::zero_fault))]
 pub fn zero_fault(block: &[u8], span: Span) -> Option<usize>
     requires { span.to ≤ length block.now }
-    ensures { result ≡ zero_fault block.now span.from span.to }
+    ensures value { result ≡ zero_fault block.now span.from span.to }
+    ensures first { First (UnusedAt block.now (record { from = span.from; to = span.to })) result }
 {
     if block_bytes::joined(block, span) == 0 {
         return None;
     }
-    first_between(span.from, span.to, |i| unless(block[i] == 0, i))
+    let start = search_start(block, span);
+    first_between(start, span.to, |i| unless(block[i] == 0, i))
 }
 
 // The refusal for this reason, if there is a fault. What comes after it is handed over by `?`, or by std's `and`, as the second clause

@@ -9,14 +9,14 @@ ghost use Rattle.answers.specs.Answers.{admitted_answer};
 ghost use Rattle.free_slots.specs.Entries.{entry_admitted};
 
 use answers::Admitted;
-use block::{Reason, Sort};
+use block::{Reason, Refusal, Sort};
 use model::{ContainerSlot, PolicySlot};
 use store::Words;
 
 // The entry comes to the lowest free slot.
 // Kept: an arm for each table: one function over `Slot` would take a trait with the change, its law and the answer's variant, which is
 // longer than the two arms.
-pub fn admit_entry(memory: &mut Words, block: &[u8], sort: Sort) -> Result<Admitted, Reason>
+pub fn admit_entry(memory: &mut Words, block: &[u8], sort: Sort) -> Result<Admitted, Refusal>
     requires { EntriesFormed memory.old × AcceptedAs (model_in memory.old).settings block.now (said_as sort block.now) }
     ensures { (memory.new, admitted_answer result) ≡ entry_admitted memory.old (said_as sort block.now) }
 {

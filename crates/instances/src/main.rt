@@ -1,7 +1,7 @@
 #![tactic(auto)]
 
 // The instances of document 01 that the proved table does not hold, and each refusal at least once, run through the calls for C.
-// Writes a line for each: the case's number, the refusal's or 0, and what else the call answered.
+// Writes a line for each: the case's number, the refusal's or 0, and what else the call answered, with a refusal the position.
 use model::Tally;
 use samples::Shape;
 use std::io;
@@ -206,7 +206,7 @@ fn line(rt: &impl Print, case: u64, refusal: u64, value: u64) -> io::Result<()> 
     println!(rt; "{case} {refusal} {value}")
 }
 
-// An answer: the refusal's number is its top byte, and the value is below.
+// An answer: the refusal's number is its top byte, and the value or the position is below.
 fn show(rt: &impl Print, case: u64, answer: u64) -> io::Result<()> {
     line(
         rt,

@@ -3,22 +3,18 @@ use mathlib.Core.Path.{◌≡◌, refl, sym, ap, ap₂, ◌∙◌}
 use mathlib.Core.Bool.{true}
 use mathlib.Core.List.{List, [], ◌∷◌, ◌++◌, map}
 use mathlib.Core.Option.{Option, none, some}
-use Prim.Native.Nat.{ℕ, ◌+◌, ◌*◌, ◌/◌, ◌%◌, ◌≤◌}
+use Prim.Native.Nat.{ℕ, ◌+◌, ◌*◌, ◌/◌, ◌%◌}
 use native.Mathlib.Omega.{arith}
 use lib.ListN.{length}
 use lib.Seq.{take_all}
 use Rattle.buffer.proofs.BufferLaws.{puts-taken}
 use Rattle.block.specs.Cut.{blocks_of}
-use Rattle.block.specs.Entry.{Container, Policy, container, policy}
-use Rattle.block.specs.Refusal.{Read, refused, accepted}
-use Rattle.block.specs.Reader.{read_entry}
-use Rattle.block.proofs.Checks.{reason-positive}
 use Rattle.model.specs.declared.Tally.{Tally}
-use Rattle.model.specs.Table.{lowest_free}
 use Rattle.model.specs.Model.{Model}
 use Rattle.model.specs.Calls.{Answer, said, pairs_of, run}
 use Rattle.model.specs.Batch.{pair_of}
-use Rattle.model.specs.ModelStep.{placing, placing_policy, admitting, admitting_block}
+use Rattle.model.specs.ModelStep.{admitting_block}
+use Rattle.model.proofs.Refused.{Numbers, admitting-numbers}
 use Rattle.model.proofs.Batch.{pairs-back}
 use Rattle.formed.specs.Registry.{model_in, image, well_formed}
 use Rattle.formed.proofs.Formed.{formed-memory}
@@ -26,52 +22,25 @@ use Rattle.batches.specs.declared.Progress.{Progress}
 use Rattle.batches.specs.Progress.{BatchAt}
 use Rattle.batches.proofs.Blocks.{whole-count}
 use Rattle.batches.proofs.BatchLaws.{all_placed, list_done, placed-formed}
-use Rattle.text.specs.Lines.{refused_line, refused_by, number_line, pair_lines}
-use Rattle.text.proofs.LineLaws.{number-taken, number-refused}
+use Rattle.text.specs.Lines.{refused_line, refused_by, pair_line, pair_lines}
+use Rattle.text.proofs.LineLaws.{pair-taken, pair-refused}
 use Rattle.sheets.specs.Blocks.{admitted_lines, admits_all}
 
 -- ---- the lines of blocks that were answered
 
--- a refusal, where there is one, is not 0
-abbrev Positive : Option ℕ → Type 0
-Positive none = Unit
-Positive (some r) = r ≡ 0 → ⊥
-
-placing-positive : (w : Model) (x : Container) (o : Option ℕ) → Positive (said (placing w x o).1).refused
-unfolding placing
-placing-positive w x none = λ z. omega (arith, z)
-placing-positive w x (some c) = tt
-
-placing-policy-positive : (w : Model) (p : Policy) (o : Option ℕ) → Positive (said (placing_policy w p o).1).refused
-unfolding placing_policy
-placing-policy-positive w p none = λ z. omega (arith, z)
-placing-policy-positive w p (some q) = tt
-
-admitting-positive : (w : Model) (b : List ℕ) → Positive (said (admitting_block w b).1).refused
-unfolding admitting_block admitting
-admitting-positive w b = pick (read_entry w.settings b)
-  where
-    pick : (o : Read _) → Positive (said (admitting w o).1).refused
-    pick (refused f) = λ z. omega (arith, reason-positive f.reason, z)
-    pick (accepted (container x)) = placing-positive w x (lowest_free w.containers)
-    pick (accepted (policy p)) = placing-policy-positive w p (lowest_free w.policies)
-
-said-line : (n : ℕ) (a : Answer) → Positive (said a).refused → refused_by n a ≡ number_line n (pair_of a).0
+said-line : (n : ℕ) (a : Answer) → Numbers (said a).refused → refused_by n a ≡ pair_line n (pair_of a)
 said-line n a h = pick _ (said a).refused h
   where
-    pair : ℕ → Option ℕ → ℕ × ℕ
-    pair slot o = elim o [ none ↦ (0, slot) | some r ↦ (r, 0) ]
-
-    pick : (slot : ℕ) (o : Option ℕ) → Positive o → (elim o [ none ↦ [] | some r ↦ refused_line n r ]) ≡ number_line n (pair slot o).0
-    pick slot none h = number-taken n 0 refl
-    pick slot (some r) h = number-refused n r h
+    pick : (slot : ℕ) (o : Option (ℕ × ℕ)) → Numbers o → (elim o [ none ↦ [] | some f ↦ refused_line n f ]) ≡ pair_line n (elim o [ none ↦ (0, slot) | some f ↦ f ])
+    pick slot none h = pair-taken n 0 slot refl
+    pick slot (some f) h = pair-refused n f.0 f.1 (λ z. omega (arith, h.0, z))
 
 lines-admitted : (l : List (List ℕ)) (w : Model) (n : ℕ) → pair_lines n (map pair_of (run admitting_block w l).1) ≡ admitted_lines w n l
-unfolding admitted_lines pair_lines
+unfolding admitted_lines pair_lines admitting_block
 lines-admitted [] w n = refl
 lines-admitted (b ∷ l) w n =
     let r = admitting_block w b in
-    ap₂ (λ (x y : List ℕ). x ++ y) (sym (said-line (n + 1) r.1 (admitting-positive w b))) (lines-admitted l r.0 (n + 1))
+    ap₂ (λ (x y : List ℕ). x ++ y) (sym (said-line (n + 1) r.1 (admitting-numbers w w.settings b))) (lines-admitted l r.0 (n + 1))
 
 -- ---- what is left
 

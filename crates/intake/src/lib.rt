@@ -28,9 +28,9 @@ fn open_by(memory: &mut Words, block: &[u8], out: &mut [u8]) -> Told
             state: State::Taking(1, 0),
             put: 0,
         },
-        Err(reason) => Told {
+        Err(refusal) => Told {
             state: State::Finished,
-            put: text::put_refusal(out, 1, reason),
+            put: text::put_refusal(out, 1, refusal),
         },
     }
 }
@@ -43,7 +43,7 @@ fn admit_as(memory: &mut Words, block: &[u8], out: &mut [u8], n: u64) -> Told
 {
     let put = match batch_blocks::place_block(memory, block, batch_blocks::none_came()) {
         Ok(_) => 0,
-        Err(reason) => text::put_refusal(out, n + 1, reason),
+        Err(refusal) => text::put_refusal(out, n + 1, refusal),
     };
     Told {
         state: State::Taking(n + 1, 0),
@@ -85,7 +85,7 @@ fn answer_blocks(memory: &mut Words, blocks: &[u8], answers: &mut [u16])
 #[inline(never)]
 pub fn feed_blocks(memory: &mut Words, blocks: &[u8], out: &mut [u8], n: u64) -> usize
     requires formed { well_formed memory.old ≡ true }
-    requires blocks { (length blocks.now ≤ 65536) × (length blocks.now % 512 ≡ 0) × (64 * (length blocks.now / 512) ≤ length out.old) × (n + length blocks.now / 512 ≤ 18446744073709551615) }
+    requires blocks { (length blocks.now ≤ 65536) × (length blocks.now % 512 ≡ 0) × (72 * (length blocks.now / 512) ≤ length out.old) × (n + length blocks.now / 512 ≤ 18446744073709551615) }
     ensures memory_after { memory.new ≡ (admits_all memory.old n (blocks_of blocks.now)).0 }
     ensures puts { Puts out.old 0 (admits_all memory.old n (blocks_of blocks.now)).1 out.new result }
 {

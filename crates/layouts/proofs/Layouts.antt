@@ -1,22 +1,20 @@
--- Two runs and two ranges, of which one of each may be empty, say what the two layouts do; and what limits that hold tell.
+-- Two runs and two ranges, of which one of each may be empty, say what the two layouts do.
 use mathlib.Core.Path.{◌≡◌, refl, sym, ap, ◌∙◌}
 use mathlib.Core.List.{List, [], ◌∷◌, ◌++◌}
 use Prim.Native.Nat.{ℕ, ◌+◌, ◌*◌, ◌≤◌}
 use native.Mathlib.Nat.{le_trans}
 use native.Mathlib.Omega.{arith}
-use borrow.Author.Tests.{leb-true}
-use lib.Dec.{leb}
 use Rattle.std.specs.Prelude.{Option, None, Some, Result, ⊤}
 use Rattle.std.specs.Option.{option_or}
 use Rattle.block.specs.declared.Reason.TheVariants.{Limit, Range, Order, Unused}
 use Rattle.block.specs.declared.Refusal.{Refusal}
 use Rattle.layouts.specs.declared.Body.{Body}
 use Rattle.block.specs.Bytes.{byte_at}
-use Rattle.block.specs.Fault.{unless, first_in}
+use Rattle.block.specs.Fault.{first_in, field_fault}
 use Rattle.block.specs.Refusal.{Check, check, first_refusal}
-use Rattle.block.specs.Reader.{Run, Span, within, range_fault, order_fault, range_faults, order_faults, unused_fault, container_layout, policy_layout}
+use Rattle.block.specs.Reader.{Run, Span, range_fault, order_fault, range_faults, order_faults, unused_fault, container_layout, policy_layout}
 use Rattle.layouts.specs.Steps.{runs_of, unused_of, body_checks, layout_checks}
-use Rattle.block.proofs.Checks.{unless-none, or_else-none, within-bounds}
+use Rattle.block.proofs.Limits.{container-count, policy-counts}
 use Rattle.block_bytes.specs.Used.{UsedEnd}
 use Rattle.block_bytes.proofs.Zeros.{no_byte, used-zeros}
 
@@ -48,31 +46,6 @@ empty-range : (b : List ℕ) (rs : List Run) (us vs : List Span) (p : ℕ) → b
 unfolding body_checks
 empty-range b rs us vs p =
     ap (λ (f : Option ℕ). check Range (range_faults b rs) ∷ check Order (order_faults b rs) ∷ check Unused f ∷ []) (first_in-without _ us _ vs (no_byte b p))
-
--- ---- what limits that hold tell
-
-pub container-count : (b : List ℕ) → (container_layout b).limits ≡ None → byte_at b 1 ≤ 8
-unfolding container_layout
-container-count b e = leb-true (byte_at b 1) 8 ((unless-none _ 1).0 e)
-
-pub record PolicyLimits (b : List ℕ) : Type 0 where
-  pub low : 1 ≤ byte_at b 1
-  pub high : byte_at b 1 ≤ 2
-  pub select : byte_at b 2 ≤ 4
-  pub allow : byte_at b 3 ≤ 4
-
-pub policy-counts : (b : List ℕ) → (policy_layout b).limits ≡ None → PolicyLimits b
-unfolding policy_layout
-policy-counts b e =
-    let s = or_else-none (unless (within 1 2 (byte_at b 1)) 1) (option_or (unless (leb (byte_at b 2) 4) 2) (unless (leb (byte_at b 3) 4) 3)) e in
-    let t = or_else-none (unless (leb (byte_at b 2) 4) 2) (unless (leb (byte_at b 3) 4) 3) s.1 in
-    let w = within-bounds 1 2 (byte_at b 1) ((unless-none _ 1).0 s.0) in
-    record {
-      low = w.0;
-      high = w.1;
-      select = leb-true (byte_at b 2) 4 ((unless-none _ 2).0 t.0);
-      allow = leb-true (byte_at b 3) 4 ((unless-none _ 3).0 t.1);
-    }
 
 -- ---- the code's layouts say what the definitions' do
 
@@ -108,19 +81,19 @@ unfolding body_checks runs_of unused_of
 rest-to b e u None y l = rw (used-zeros b e y.rest.from u (le_trans (l refl) u.low))
 rest-to b e u (Some p) y l = refl
 
-pub container-layout : (b : List ℕ) (f : Option ℕ) (n e : ℕ) → UsedEnd b e → f ≡ unless (leb (byte_at b 1) 8) 1 → n ≡ byte_at b 1 → answered b f (container_body n e) ≡ first_refusal (layout_checks b (container_layout b))
+pub container-layout : (b : List ℕ) (f : Option ℕ) (n e : ℕ) → UsedEnd b e → f ≡ field_fault (container_layout b).limits → n ≡ byte_at b 1 → answered b f (container_body n e) ≡ first_refusal (layout_checks b (container_layout b))
 unfolding layout_checks container_layout runs_of unused_of
 container-layout b f n e u q h =
     rest-to b e u f (container_body n e) (λ z. omega (arith, container-count b (sym q ∙ z)))
     ∙ ap (λ (g : Option ℕ). answered b g (container_body n 510)) q
-    ∙ ap (λ (k : ℕ). answered b (unless (leb (byte_at b 1) 8) 1) (container_body k 510)) h
-    ∙ ap (λ (cs : List Check). first_refusal (check Limit (unless (leb (byte_at b 1) 8) 1) ∷ cs)) (empty-run b (record { start = 4; count = byte_at b 1 } ∷ []) [] (4 + 4 * byte_at b 1) _)
+    ∙ ap (λ (k : ℕ). answered b (field_fault (container_layout b).limits) (container_body k 510)) h
+    ∙ ap (λ (cs : List Check). first_refusal (check Limit (field_fault (container_layout b).limits) ∷ cs)) (empty-run b (record { start = 4; count = byte_at b 1 } ∷ []) [] (4 + 4 * byte_at b 1) _)
 
-pub policy-layout : (b : List ℕ) (f : Option ℕ) (m n e : ℕ) → UsedEnd b e → f ≡ (policy_layout b).limits → m ≡ byte_at b 2 → n ≡ byte_at b 3 → answered b f (policy_body m n e) ≡ first_refusal (layout_checks b (policy_layout b))
+pub policy-layout : (b : List ℕ) (f : Option ℕ) (m n e : ℕ) → UsedEnd b e → f ≡ field_fault (policy_layout b).limits → m ≡ byte_at b 2 → n ≡ byte_at b 3 → answered b f (policy_body m n e) ≡ first_refusal (layout_checks b (policy_layout b))
 unfolding layout_checks policy_layout runs_of unused_of
 policy-layout b f m n e u q h k =
     rest-to b e u f (policy_body m n e) (λ z. let l = policy-counts b (sym q ∙ z) in omega arith)
     ∙ ap (λ (g : Option ℕ). answered b g (policy_body m n 510)) q
-    ∙ ap (λ (i : ℕ). answered b (policy_layout b).limits (policy_body i n 510)) h
-    ∙ ap (λ (j : ℕ). answered b (policy_layout b).limits (policy_body (byte_at b 2) j 510)) k
-    ∙ ap (λ (cs : List Check). first_refusal (check Limit (policy_layout b).limits ∷ cs)) (empty-range b (policy_layout b).runs [] (policy_layout b).unused 4)
+    ∙ ap (λ (i : ℕ). answered b (field_fault (policy_layout b).limits) (policy_body i n 510)) h
+    ∙ ap (λ (j : ℕ). answered b (field_fault (policy_layout b).limits) (policy_body (byte_at b 2) j 510)) k
+    ∙ ap (λ (cs : List Check). first_refusal (check Limit (field_fault (policy_layout b).limits) ∷ cs)) (empty-range b (policy_layout b).runs [] (policy_layout b).unused 4)

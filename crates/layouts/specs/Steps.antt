@@ -6,6 +6,7 @@ use Rattle.faults.specs.declared.Run.{Run as CodeRun}
 use Rattle.block_bytes.specs.declared.Span.{Span as CodeSpan}
 use Rattle.block.specs.declared.Reason.TheVariants.{BlockLength, Limit, Range, Order, Unused}
 use Rattle.block.specs.declared.Refusal.{Refusal}
+use Rattle.block.specs.Fault.{field_fault}
 use Rattle.block.specs.Refusal.{Check, check, first_refusal}
 use Rattle.block.specs.Reader.{Run, Span, Layout, range_faults, order_faults, unused_fault, frame}
 use Rattle.block_bytes.specs.Used.{UsedEnd}
@@ -51,4 +52,4 @@ body_checks b rs us = check Range (range_faults b rs) ∷ check Order (order_fau
 
 -- 6 to 9
 unfoldable pub layout_checks : List ℕ → Layout → List Check
-layout_checks b l = check Limit l.limits ∷ body_checks b l.runs l.unused
+layout_checks b l = check Limit (field_fault l.limits) ∷ body_checks b l.runs l.unused

@@ -13,10 +13,7 @@ use faults::Run;
 pub fn whole(block: &[u8]) -> Result<&[u8; 512], Refusal>
     ensures { IsWhole block.now result }
 {
-    block.as_array().ok_or(Refusal {
-        reason: Reason::BlockLength,
-        position: 0,
-    })
+    block.as_array().ok_or(Reason::BlockLength.into())
 }
 
 // The block as its 512 bytes and where the used ones end, or refusal 3 or 4. It has one caller: so it is compiled into that, without a

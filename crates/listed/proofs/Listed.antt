@@ -92,11 +92,11 @@ abbrev counted_standing : Model → ℕ → Answer
 counted_standing m n = counted (length (containers_of m)) (length (policies_of m)) n
 
 abbrev written_into : Model → ℕ → ℕ → Answer
-written_into m n size = cond (leb size n) (file_put (file_of m)) (refusal 13)
+written_into m n size = cond (leb size n) (file_put (file_of m)) (refusal 13 0)
 
 -- 14 is passed
 abbrev batch_into : Model → List Block → ℕ → Tally → Model × Answer
-batch_into m l n t = cond (leb (2 * length l) n) (batch_outcome t (run admitting m (map (λ b. b.read) l))) (m, refusal 13)
+batch_into m l n t = cond (leb (2 * length l) n) (batch_outcome t (run admitting m (map (λ b. b.read) l))) (m, refusal 13 0)
 
 known_step : Model → Known → Model × Seen
 known_step m (call c) = let r = model_step m c in (r.0, record { answer = r.1; other = none })
@@ -105,7 +105,7 @@ known_step m (writing n) = (m, record { answer = written_into m n (512 * (1 + (l
 known_step m (entry b o e) = let r = admitting m o in (r.0, record { answer = r.1; other = none })
 known_step m (settings b o e) = let r = opening m o in (r.0, record { answer = r.1; other = none })
 known_step m (batch l h n t) = let r = batch_into m l n t in (r.0, record { answer = r.1; other = none })
-known_step m (elsewhere x e c) = (m, record { answer = refusal 1; other = some x })
+known_step m (elsewhere x e c) = (m, record { answer = refusal 1 0; other = some x })
 
 on_known : Model → List Known → List Seen
 on_known m [] = []
@@ -144,8 +144,8 @@ batch-known m l h n t =
     let whole : eqb (length bs % 512) 0 ≡ true = eq-eqb (length bs % 512) 0 (omega (arith, k)) in
     let count : 2 * length (blocks_of bs) ≡ 2 * length l = ap (λ (j : ℕ). 2 * j) (ap length (flat-blocks l) ∙ bytes_count l) in
     let taken : run admitting_block m (blocks_of bs) ≡ run admitting m (map (λ b. b.read) l) = ap (run admitting_block m) (flat-blocks l) ∙ run-reads m l in
-    ap₂ (λ (u v : Bool). cond (u && v) (cond (leb (2 * length (blocks_of bs)) n) (batch_outcome t (run admitting_block m (blocks_of bs))) (m, refusal 13)) (m, refusal 14)) few whole
-    ∙ ap₂ (λ (j : ℕ) (r : Model × List Answer). cond (leb j n) (batch_outcome t r) (m, refusal 13)) count taken
+    ap₂ (λ (u v : Bool). cond (u && v) (cond (leb (2 * length (blocks_of bs)) n) (batch_outcome t (run admitting_block m (blocks_of bs))) (m, refusal 13 0)) (m, refusal 14 0)) few whole
+    ∙ ap₂ (λ (j : ℕ) (r : Model × List Answer). cond (leb j n) (batch_outcome t r) (m, refusal 13 0)) count taken
 
 known-run : (m : Model) → ValidEntries m → (l : List Known) → (on_model m (map lending l)).1 ≡ on_known m l
 unfolding on_model on_known known_step model_step admitting_block model_answer
@@ -160,7 +160,7 @@ known-run m s (settings b o e ∷ l) =
 known-run m s (batch b h n t ∷ l) =
     let c = change (admit_batch (flatten (bytes_of b)) n t) in
     rw (← batch-known m b h n t) (ap (answered (model_step m c).1) (known-run (model_step m c).0 (valid-step m s c) l))
-known-run m s (elsewhere x e c ∷ l) = ap (λ t. record { answer = refusal 1; other = some x } ∷ t) (known-run m s l)
+known-run m s (elsewhere x e c ∷ l) = ap (λ t. record { answer = refusal 1 0; other = some x } ∷ t) (known-run m s l)
 
 -- ---- the blocks of the list
 
@@ -207,7 +207,7 @@ unchecked-refused s = refl
 block-refusals : (s : Settings) → Refusals s
 unfolding kind_block nine_block value_block order_block unused_block key_block
     Written.sealed Reader.entry_checks Reader.layout_of Reader.container_layout Reader.policy_layout Reader.zero_fault Reader.order_fault
-    Reader.rise_fault Reader.range_fault Reader.label_fault Reader.within Reader.settings_checks Reader.settings_fault
+    Reader.rise_fault Reader.range_fault Reader.label_fault Reader.within Reader.settings_checks Reader.settings_fields Reader.settings_unused
 block-refusals s = record {
   short = short-refused s;
   unchecked = unchecked-refused s;

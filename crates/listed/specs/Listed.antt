@@ -34,7 +34,7 @@ zeros-other n h e = eqb-false n memory_words h (sym (length-replicate {A = ℕ} 
 abbrev pub gives_other : (n : ℕ) → eqb n memory_words ≡ false → Call → Line
 gives_other n h call = record {
   call = other (replicate n 0) (zeros-other n h) call;
-  seen = record { answer = refusal 1; other = some (replicate n 0) };
+  seen = record { answer = refusal 1 0; other = some (replicate n 0) };
 }
 
 -- ---- the blocks
@@ -129,9 +129,9 @@ listed =
     ∷ gives (ask (next_finding start)) no_finding
     ∷ gives (ask (list_findings start 3)) (puts [] 0 0 0)
     -- room for one byte too few, and for the settings block
-    ∷ gives (ask (write 511)) (refusal 13)
+    ∷ gives (ask (write 511)) (refusal 13 0)
     ∷ gives (ask (write 512)) (writes (settings_block printed_settings ∷ []))
-    ∷ gives (change (remove_container 0)) (refusal 11)
+    ∷ gives (change (remove_container 0)) (refusal 11 0)
     ∷ gives (container_of (label 1 11 ∷ label 3 1 ∷ [])) (container_at 0)
     ∷ gives_other 5762 refl (container_of (label 1 11 ∷ label 3 2 ∷ []))
     ∷ gives (container_of (label 1 11 ∷ label 3 2 ∷ [])) (container_at 1)
@@ -152,7 +152,7 @@ listed =
     ∷ gives (ask (list_findings (cursor 7 2 1) 1)) (puts [] 7 2 1)
     ∷ gives_other 5762 refl (ask (list_findings start 3))
     -- its blocks again
-    ∷ gives (ask (write 4095)) (refusal 13)
+    ∷ gives (ask (write 4095)) (refusal 13 0)
     ∷ gives (ask (write 5000))
     (writes
     (settings_block printed_settings
@@ -170,30 +170,30 @@ listed =
     ∷ gives (ask (ask_reaches 1 1)) (says true)
     ∷ gives (ask (ask_reaches 2 1)) (says true)
     -- 10 of either comes before 11
-    ∷ gives (ask (ask_reaches 4 256)) (refusal 10)
-    ∷ gives (ask (ask_reaches 3 4)) (refusal 11)
+    ∷ gives (ask (ask_reaches 4 256)) (refusal 10 0)
+    ∷ gives (ask (ask_reaches 3 4)) (refusal 11 0)
     ∷ gives (ask (ask_user 2 12)) (says true)
     ∷ gives (ask (ask_user 2 65548)) (says false)
-    ∷ gives (ask (ask_user 255 12)) (refusal 11)
-    ∷ gives (ask (ask_user 256 12)) (refusal 10)
-    -- blocks that are refused
-    ∷ gives (change (admit short_block)) (refusal 3)
-    ∷ gives (change (admit unchecked_block)) (refusal 4)
-    ∷ gives (change (admit kind_block)) (refusal 5)
-    ∷ gives (change (admit nine_block)) (refusal 6)
-    ∷ gives (change (admit value_block)) (refusal 7)
-    ∷ gives (change (admit order_block)) (refusal 8)
-    ∷ gives (change (admit unused_block)) (refusal 9)
-    ∷ gives (open_with key_block) (refusal 7)
+    ∷ gives (ask (ask_user 255 12)) (refusal 11 0)
+    ∷ gives (ask (ask_user 256 12)) (refusal 10 0)
+    -- blocks that are refused, and where
+    ∷ gives (change (admit short_block)) (refusal 3 0)
+    ∷ gives (change (admit unchecked_block)) (refusal 4 510)
+    ∷ gives (change (admit kind_block)) (refusal 5 0)
+    ∷ gives (change (admit nine_block)) (refusal 6 1)
+    ∷ gives (change (admit value_block)) (refusal 7 10)
+    ∷ gives (change (admit order_block)) (refusal 8 8)
+    ∷ gives (change (admit unused_block)) (refusal 9 3)
+    ∷ gives (open_with key_block) (refusal 7 1)
     ∷ gives_other 5764 refl (open_with (settings_block other_settings))
     ∷ gives (ask audit) (says true)
     -- removals: pairs that a policy forbade return
     ∷ gives (change (remove_policy 2)) done
-    ∷ gives (change (remove_policy 2)) (refusal 11)
-    ∷ gives (change (remove_policy 128)) (refusal 10)
+    ∷ gives (change (remove_policy 2)) (refusal 11 0)
+    ∷ gives (change (remove_policy 128)) (refusal 10 0)
     ∷ gives (ask (ask_reaches 1 0)) (says true)
     ∷ gives (change (remove_container 0)) done
-    ∷ gives (ask (ask_reaches 0 1)) (refusal 11)
+    ∷ gives (ask (ask_reaches 0 1)) (refusal 11 0)
     -- a freed slot is left out
     ∷ gives (ask (write 3072))
     (writes
@@ -211,18 +211,18 @@ listed =
     ∷ gives (change rebuild) done
     ∷ gives (ask counts) (counted 4 2 14)
     -- batches: of no whole block, with too short a list, of none, of three blocks, one of them refused
-    ∷ gives (batch_of (short_block ∷ []) 0 (tally_of 0 0)) (refusal 14)
-    ∷ gives (batch_of three_blocks 5 (tally_of 0 0)) (refusal 13)
+    ∷ gives (batch_of (short_block ∷ []) 0 (tally_of 0 0)) (refusal 14 0)
+    ∷ gives (batch_of three_blocks 5 (tally_of 0 0)) (refusal 13 0)
     ∷ gives (batch_of [] 0 (tally_of 3 4)) (batch_put [] (tally_of 3 4))
     ∷ gives_other 5762 refl (batch_of three_blocks 6 (tally_of 0 0))
-    ∷ gives (batch_of three_blocks 7 (tally_of 18446744073709551614 8)) (batch_put ((0, 4) ∷ (4, 0) ∷ (0, 2) ∷ []) (tally_of 18446744073709551615 9))
+    ∷ gives (batch_of three_blocks 7 (tally_of 18446744073709551614 8)) (batch_put ((0, 4) ∷ (4, 510) ∷ (0, 2) ∷ []) (tally_of 18446744073709551615 9))
     ∷ gives (ask counts) (counted 5 3 19)
     ∷ gives (ask audit) (says true)
     -- open again; then all policies that the table takes, and one more
     ∷ gives (open_with (settings_block other_settings)) done
     ∷ gives (ask counts) (counted 0 0 0)
     ∷ (filling 0 128
-    ++ (gives (change (admit (block_of no_labels))) (refusal 12)
+    ++ (gives (change (admit (block_of no_labels))) (refusal 12 0)
     ∷ gives (container_of []) (container_at 0)
     ∷ gives (change (remove_policy 5)) done
     ∷ gives (change (admit (block_of no_labels))) (policy_at 5)

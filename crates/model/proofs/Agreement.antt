@@ -65,12 +65,12 @@ module _ {A : Type 0} (r : Registry) (call : Call) (size : ℕ) (t : Table A) (w
 
   -- a call that meets 10 and 11 of one slot
   slot_step : (i : ℕ) → refusals r call ≡ slot_checks size t i
-      → registry_step r call ≡ cond (ltb i size) (cond (is_free (at t i)) (r, refusal 11) (accepted_step r call)) (r, refusal 10)
+      → registry_step r call ≡ cond (ltb i size) (cond (is_free (at t i)) (r, refusal 11 0) (accepted_step r call)) (r, refusal 10 0)
   unfolding registry_step unless_refused
   slot_step i e = ap (λ cs. unless_refused r call (first_refusal cs)) e ∙ pick (ltb i size) (is_free (at t i)) refl refl
     where
       pick : (u v : Bool) → ltb i size ≡ u → is_free (at t i) ≡ v
-          → unless_refused r call (first_refusal (slot_checks size t i)) ≡ cond u (cond v (r, refusal 11) (accepted_step r call)) (r, refusal 10)
+          → unless_refused r call (first_refusal (slot_checks size t i)) ≡ cond u (cond v (r, refusal 11 0) (accepted_step r call)) (r, refusal 10 0)
       pick false v h k = rw (beyond-ltb size i false h)
       pick true true h k = rw (beyond-ltb size i true h, free-within i h, k)
       pick true false h k = rw (beyond-ltb size i true h, free-within i h, k)
@@ -79,12 +79,12 @@ module _ {A : Type 0} (r : Registry) (call : Call) (size : ℕ) (t : Table A) (w
 module _ {A : Type 0} (r : Registry) (call : Call) (size : ℕ) (t : Table A) (whole : length t ≡ size) where
   pair_step : (a b : ℕ) → refusals r call ≡ pair_checks size t a b
       → registry_step r call
-      ≡ cond (ltb a size && ltb b size) (cond (is_free (at t a) || is_free (at t b)) (r, refusal 11) (accepted_step r call)) (r, refusal 10)
+      ≡ cond (ltb a size && ltb b size) (cond (is_free (at t a) || is_free (at t b)) (r, refusal 11 0) (accepted_step r call)) (r, refusal 10 0)
   unfolding registry_step unless_refused
   pair_step a b e = ap (λ cs. unless_refused r call (first_refusal cs)) e ∙ pick (ltb a size) (ltb b size) (is_free (at t a) || is_free (at t b)) refl refl refl
     where
       pick : (u v w : Bool) → ltb a size ≡ u → ltb b size ≡ v → (is_free (at t a) || is_free (at t b)) ≡ w
-          → unless_refused r call (first_refusal (pair_checks size t a b)) ≡ cond (u && v) (cond w (r, refusal 11) (accepted_step r call)) (r, refusal 10)
+          → unless_refused r call (first_refusal (pair_checks size t a b)) ≡ cond (u && v) (cond w (r, refusal 11 0) (accepted_step r call)) (r, refusal 10 0)
       pick false v w h k l = rw (beyond-ltb size a false h)
       pick true false w h k l = rw (beyond-ltb size a true h, beyond-ltb size b false k)
       pick true true true h k l =
@@ -115,7 +115,7 @@ module _ (m : Model) where
   admit-agrees b = pick (outcome (computed m) b)
     where
       pick : Outcome (computed m) b → admit_block (computed m) b ≡ as_computed (admitting_block m b)
-      pick (turned n e s) = s ∙ sym (ap as_computed e)
+      pick (turned n p e s) = s ∙ sym (ap as_computed e)
       pick (came c g e s) = s ∙ ap (λ r. (r, slot_answer c)) (change-computed m c (comes-fits m c g)) ∙ sym (ap as_computed e)
 
 admissions-agree : (m : Model) (bs : List (List ℕ)) → run admit_block (computed m) bs ≡ as_computed (run admitting_block m bs)
@@ -133,7 +133,7 @@ module _ (m : Model) (sized : Sized m) where
   -- by what is too long, of whole blocks, and has too little room
   batch-agrees : (bs : List ℕ) (n : ℕ) (t : Tally) (u v w : Bool)
       → unless_refused (computed m) (change (admit_batch bs n t)) (first_refusal (check BatchLength (where0 (u || not v)) ∷ check BufferLength (where0 w) ∷ []))
-      ≡ as_computed (cond (not u && v) (cond (not w) (batch_outcome t (run admitting_block m (blocks_of bs))) (m, refusal 13)) (m, refusal 14))
+      ≡ as_computed (cond (not u && v) (cond (not w) (batch_outcome t (run admitting_block m (blocks_of bs))) (m, refusal 13 0)) (m, refusal 14 0))
   unfolding unless_refused accepted_step
   batch-agrees bs n t true v w = refl
   batch-agrees bs n t false false w = refl
@@ -141,24 +141,24 @@ module _ (m : Model) (sized : Sized m) where
   batch-agrees bs n t false true false = ap (batch_outcome t) (admissions-agree m (blocks_of bs))
 
   remove-agrees : (c : ℕ) (u : Bool) (x : Option Container)
-      → cond u (cond (is_free x) (computed m, refusal 11) (change_container (computed m) c none, done)) (computed m, refusal 10)
-      ≡ as_computed (cond u (removing m c x) (m, refusal 10))
+      → cond u (cond (is_free x) (computed m, refusal 11 0) (change_container (computed m) c none, done)) (computed m, refusal 10 0)
+      ≡ as_computed (cond u (removing m c x) (m, refusal 10 0))
   unfolding removing
   remove-agrees c false x = refl
   remove-agrees c true none = refl
   remove-agrees c true (some x) = ap (λ r. (r, done)) (container-changed m c none)
 
   remove-policy-agrees : (q : ℕ) (u : Bool) (x : Option Policy) → at m.policies q ≡ x
-      → cond u (cond (is_free x) (computed m, refusal 11) (take_policy (computed m) q x)) (computed m, refusal 10)
-      ≡ as_computed (cond u (removing_policy m q x) (m, refusal 10))
+      → cond u (cond (is_free x) (computed m, refusal 11 0) (take_policy (computed m) q x)) (computed m, refusal 10 0)
+      ≡ as_computed (cond u (removing_policy m q x) (m, refusal 10 0))
   unfolding removing_policy take_policy
   remove-policy-agrees q false x e = refl
   remove-policy-agrees q true none e = refl
   remove-policy-agrees q true (some p) e = ap (λ r. (r, done)) (policy-removed m q p e)
 
   ask-agrees : (a b : ℕ) (u : Bool) (x y : Option Container)
-      → cond u (cond (is_free x || is_free y) (computed m, refusal 11) (computed m, says ((computed_bits m).matrix a b))) (computed m, refusal 10)
-      ≡ as_computed (m, cond u (asking m a b x y) (refusal 10))
+      → cond u (cond (is_free x || is_free y) (computed m, refusal 11 0) (computed m, says ((computed_bits m).matrix a b))) (computed m, refusal 10 0)
+      ≡ as_computed (m, cond u (asking m a b x y) (refusal 10 0))
   unfolding asking
   ask-agrees a b false x y = refl
   ask-agrees a b true none y = refl
@@ -166,8 +166,8 @@ module _ (m : Model) (sized : Sized m) where
   ask-agrees a b true (some x) (some y) = refl
 
   ask-user-agrees : (v : ℕ) (u : Bool) (x : Option Container)
-      → cond u (cond (is_free x) (computed m, refusal 11) (computed m, says (on (λ c. carries c (record { key = m.settings.user_key; value = v })) x))) (computed m, refusal 10)
-      ≡ as_computed (m, cond u (asking_user m v x) (refusal 10))
+      → cond u (cond (is_free x) (computed m, refusal 11 0) (computed m, says (on (λ c. carries c (record { key = m.settings.user_key; value = v })) x))) (computed m, refusal 10 0)
+      ≡ as_computed (m, cond u (asking_user m v x) (refusal 10 0))
   unfolding asking_user
   ask-user-agrees v false x = refl
   ask-user-agrees v true none = refl
@@ -176,7 +176,7 @@ module _ (m : Model) (sized : Sized m) where
   -- a buffer of n bytes for a file of l
   write-agrees : (n l : ℕ) (t : Bool) → ltb n l ≡ t
       → unless_refused (computed m) (ask (write n)) (first_refusal (check BufferLength (where0 t) ∷ []))
-      ≡ as_computed (m, cond (leb l n) (file_put (file_of m)) (refusal 13))
+      ≡ as_computed (m, cond (leb l n) (file_put (file_of m)) (refusal 13 0))
   unfolding unless_refused accepted_step answer_to computed
   write-agrees n l true e = rw (lt-leb l n (ltb-true n l e))
   write-agrees n l false e = rw (le-leb l n (ltb-false n l e))
@@ -190,7 +190,7 @@ module _ (m : Model) (sized : Sized m) where
       let whole = eqb (length bs % 512) 0 in
       let taken = batch_outcome t (run admitting_block m (blocks_of bs)) in
       batch-agrees bs n t (ltb 65536 (length bs)) whole (ltb n (2 * length (blocks_of bs)))
-      ∙ ap₂ (λ (u w : Bool). as_computed (cond (u && whole) (cond w taken (m, refusal 13)) (m, refusal 14)))
+      ∙ ap₂ (λ (u w : Bool). as_computed (cond (u && whole) (cond w taken (m, refusal 13 0)) (m, refusal 14 0)))
       (not-ltb 65536 (length bs)) (not-ltb n (2 * length (blocks_of bs)))
   step-agrees (change (remove_container c)) =
       slot_step (computed m) (change (remove_container c)) container_slots m.containers sized.containers c refl

@@ -31,7 +31,7 @@ module _ (m : Model) where
   asked-itself : (a : ℕ) → a < container_slots → stands m.containers a ≡ true → model_step m (ask (ask_reaches a a)) ≡ (m, says true)
   unfolding model_step model_answer asking computed_bits
   asked-itself a h e =
-      ap₂ (λ t r. (m, cond (t && t) r (refusal 10))) (lt-ltb a container_slots h)
+      ap₂ (λ t r. (m, cond (t && t) r (refusal 10 0))) (lt-ltb a container_slots h)
       (go (at m.containers a) e ∙ ap says (itself a ∙ e))
     where
       go : (o : Option Container) → on (λ x. true) o ≡ true → asking m a a o o ≡ says (matrix_bit m a a)

@@ -58,18 +58,18 @@ admissions-keep kept m h (b ∷ bs) = admissions-keep kept (admitting_block m b)
 
 module _ {P : Model → Type 0} (kept : Kept P) (m : Model) (holds : P m) where
   batch-keeps : (bs : List ℕ) (t : Tally) (u v : Bool)
-      → P (cond u (cond v (batch_outcome t (run admitting_block m (blocks_of bs))) (m, refusal 13)) (m, refusal 14)).0
+      → P (cond u (cond v (batch_outcome t (run admitting_block m (blocks_of bs))) (m, refusal 13 0)) (m, refusal 14 0)).0
   batch-keeps bs t false v = holds
   batch-keeps bs t true false = holds
   batch-keeps bs t true true = admissions-keep kept m holds (blocks_of bs)
 
-  remove-keeps : (c : ℕ) (u : Bool) (x : Option Container) → P (cond u (removing m c x) (m, refusal 10)).0
+  remove-keeps : (c : ℕ) (u : Bool) (x : Option Container) → P (cond u (removing m c x) (m, refusal 10 0)).0
   unfolding removing
   remove-keeps c false x = holds
   remove-keeps c true none = holds
   remove-keeps c true (some x) = kept.container_gone m holds c
 
-  remove-policy-keeps : (q : ℕ) (u : Bool) (x : Option Policy) → P (cond u (removing_policy m q x) (m, refusal 10)).0
+  remove-policy-keeps : (q : ℕ) (u : Bool) (x : Option Policy) → P (cond u (removing_policy m q x) (m, refusal 10 0)).0
   unfolding removing_policy
   remove-policy-keeps q false x = holds
   remove-policy-keeps q true none = holds

@@ -52,14 +52,14 @@ pass m old [] = record { changes = []; answers = []; come = tt; entries = refl; 
 pass m old (b ∷ bs) = after (outcome (registry_with m old) b) (λ n bits. pass n bits bs)
   where
     after : Outcome (registry_with m old) b → ((n : Model) (bits : BitPlace → Bool) → Pass n bits bs) → Pass m old (b ∷ bs)
-    after (turned n e s) rest =
+    after (turned n q e s) rest =
         let p = rest m old in
         record {
           changes = p.changes;
-          answers = refusal n ∷ p.answers;
+          answers = refusal n q ∷ p.answers;
           come = p.come;
-          entries = rw e (ap (λ t. (t.0, refusal n ∷ t.1)) p.entries);
-          stored = rw s (ap (λ t. (t.0, refusal n ∷ t.1)) p.stored);
+          entries = rw e (ap (λ t. (t.0, refusal n q ∷ t.1)) p.entries);
+          stored = rw s (ap (λ t. (t.0, refusal n q ∷ t.1)) p.stored);
           touched = p.touched;
         }
     after (came c g e s) rest =

@@ -4,7 +4,7 @@ use mathlib.Core.Logic.{◌↔◌}
 use mathlib.Core.Bool.{Bool, true, false, ◌&&◌}
 use mathlib.Core.List.{List, [], ◌∷◌, ◌++◌}
 use mathlib.Core.Option.{Option, none, some}
-use Prim.Native.Nat.{ℕ, ◌<◌}
+use Prim.Native.Nat.{ℕ, ◌≤◌, ◌<◌}
 use native.Mathlib.Omega.{arith}
 use lib.Dec.{T}
 use lib.ListN.{length}
@@ -13,18 +13,20 @@ use Rattle.std.specs.Prelude.{Option as StdOption, None, Some, Result, Ok, Err, 
 use Rattle.block.specs.declared.Reason.{Reason}
 use Rattle.block.specs.declared.Reason.TheVariants.{BeyondTable, FreeSlot, TableFull}
 use Rattle.block.specs.declared.Refusal.{Refusal}
-use Rattle.block.specs.Refusal.{reason_number, Check, check, refuse, first_refusal}
-use Rattle.block.specs.Entry.{Container, Policy, Entry, container, policy}
-use Rattle.block.specs.Reader.{entry_checks, entry_said}
+use Rattle.block.specs.Refusal.{reason_number, Check, check, refuse, first_refusal, accepted, read_unless}
+use Rattle.block.specs.Entry.{Container, Policy, Settings, Entry, container, policy}
+use Rattle.block.specs.Reader.{entry_checks, entry_said, read_entry}
+use Rattle.block.proofs.Checks.{reason-positive}
+use Rattle.block.proofs.Positions.{entry-within}
 use Rattle.model.specs.declared.Finding.{Finding}
 use Rattle.model.specs.Table.{all, is_free, at, free, lowest_free}
 use Rattle.model.specs.Model.{policy_slots, Model}
 use Rattle.model.specs.Findings.{next_after}
 use Rattle.model.specs.Calls.{ask_reaches, ask_user, next_finding, list_findings, counts, audit, write}
 use Rattle.model.specs.Calls.{Call, open_with, change, admit, admit_batch, remove_container, remove_policy, rebuild, ask}
-use Rattle.model.specs.Calls.{refusal, found_answer, said}
+use Rattle.model.specs.Calls.{refusal, refusal_of, found_answer, said}
 use Rattle.model.specs.Batch.{batch_answer}
-use Rattle.model.specs.ModelStep.{model_step}
+use Rattle.model.specs.ModelStep.{placing, placing_policy, admitting, model_step}
 use Rattle.model.specs.Registry.{Registry, computed}
 use Rattle.model.specs.Refusals.{where0, beyond, slot_checks, no_room, admit_checks, refusals, Refuses}
 use Rattle.model.specs.RegistryStep.{admit_container, admit_policy, admit_entry, take_policy, answer_to, accepted_step, unless_refused, registry_step}
@@ -39,6 +41,12 @@ pub record FirstRefused (cs : List Check) (n p : ℕ) : Type 0 where
   pub reason : Reason
   pub numbered : reason_number reason ≡ n
   pub first : first_refusal cs ≡ Err (the_refusal reason p)
+
+pub refused-by : (cs : List Check) (n p : ℕ) (f : Refusal) → first_refusal cs ≡ Err f → refusal_of f ≡ refusal n p → FirstRefused cs n p
+refused-by cs n p f h e =
+    let s : reason_number f.reason ≡ n = cc in
+    let q : f.position ≡ p = cc in
+    record { reason = f.reason; numbered = s; first = h ∙ ap (λ k. Err (the_refusal f.reason k)) q }
 
 to : (cs : List Check) (w : Reason) (p : ℕ) → first_refusal cs ≡ Err (the_refusal w p) → Refuses cs (reason_number w) p
 to [] w p e = let z : ◌≡◌ {A = ℕ} 0 1 = cc in absurd (omega arith)
@@ -151,30 +159,55 @@ module _ (r : Registry) (sized : Sized r.model) where
   accepted-answers (ask audit) e = refl
   accepted-answers (ask (write n)) e = refl
 
-  answered : (call : Call) (n : ℕ) (o : Result ⊤ Refusal) → first_refusal (refusals r call) ≡ o → (unless_refused r call o).1 ≡ refusal n
-      → (p : ℕ) × FirstRefused (refusals r call) n p
+  answered : (call : Call) (n p : ℕ) (o : Result ⊤ Refusal) → first_refusal (refusals r call) ≡ o → (unless_refused r call o).1 ≡ refusal n p → FirstRefused (refusals r call) n p
   unfolding unless_refused
-  answered call n (Ok tt) h e =
-      let a : some n ≡ none = sym (ap (λ x. (said x).refused) e) ∙ accepted-answers call h in
+  answered call n p (Ok tt) h e =
+      let a : ◌≡◌ {A = Option (ℕ × ℕ)} (some (n, p)) none = sym (ap (λ x. (said x).refused) e) ∙ accepted-answers call h in
       let z : ◌≡◌ {A = ℕ} 0 1 = cc in
       absurd (omega arith)
-  answered call n (Err f) h e = let s : reason_number f.reason ≡ n = cc in (f.position, record { reason = f.reason; numbered = s; first = h })
+  answered call n p (Err f) h e = refused-by (refusals r call) n p f h e
 
-  -- Refused with n: exactly if n's condition holds and no earlier one that the call meets does.
-  pub refused-exactly : (call : Call) (n : ℕ) → ((registry_step r call).1 ≡ refusal n) ↔ ((p : ℕ) × Refuses (refusals r call) n p)
+  -- Refused with n at p: exactly if n's condition finds fault at p, and no earlier one that the call meets finds any.
+  pub refused-exactly : (call : Call) (n p : ℕ) → ((registry_step r call).1 ≡ refusal n p) ↔ Refuses (refusals r call) n p
   unfolding registry_step unless_refused
-  refused-exactly call n = (
-    λ e. let s = answered call n (first_refusal (refusals r call)) refl e in
-        (s.0, (first-exactly (refusals r call) n s.0).0 s.1),
-    λ s. let f = (first-exactly (refusals r call) n s.0).1 s.1 in
-        ap (λ o. (unless_refused r call o).1) f.first ∙ ap refusal f.numbered,
+  refused-exactly call n p = (
+    λ e. (first-exactly (refusals r call) n p).0 (answered call n p (first_refusal (refusals r call)) refl e),
+    λ s. let f = (first-exactly (refusals r call) n p).1 s in
+        ap (λ o. (unless_refused r call o).1) f.first ∙ ap (λ k. refusal k p) f.numbered,
   )
 
 -- The same of the model.
-pub model-refused-exactly : (m : Model) → Sized m → (call : Call) (n : ℕ)
-    → ((model_step m call).1 ≡ refusal n) ↔ ((p : ℕ) × Refuses (refusals (computed m) call) n p)
+pub model-refused-exactly : (m : Model) → Sized m → (call : Call) (n p : ℕ)
+    → ((model_step m call).1 ≡ refusal n p) ↔ Refuses (refusals (computed m) call) n p
 unfolding computed
-model-refused-exactly m sized call n =
+model-refused-exactly m sized call n p =
     let e = ap (λ s. s.1) (step-agrees m sized call) in
-    let x = refused-exactly (computed m) sized call n in
+    let x = refused-exactly (computed m) sized call n p in
     (λ h. x.0 (e ∙ h), λ s. sym e ∙ x.1 s)
+
+-- ---- the numbers of a refused block
+
+-- the refusal's number is not 0, and its position is one of a block
+abbrev pub Numbers : Option (ℕ × ℕ) → Type 0
+Numbers none = Unit
+Numbers (some x) = (0 < x.0) × (x.1 ≤ 510)
+
+pub admitting-numbers : (m : Model) (s : Settings) (b : List ℕ) → Numbers (said (admitting m (read_entry s b)).1).refused
+unfolding admitting placing placing_policy read_entry
+admitting-numbers m s b = pick (first_refusal (entry_checks s b)) refl
+  where
+    comes : (x : Container) (o : Option ℕ) → Numbers (said (placing m x o).1).refused
+    comes x none = (omega arith, omega arith)
+    comes x (some c) = tt
+
+    comes_policy : (p : Policy) (o : Option ℕ) → Numbers (said (placing_policy m p o).1).refused
+    comes_policy p none = (omega arith, omega arith)
+    comes_policy p (some q) = tt
+
+    entry : (e : Entry) → Numbers (said (admitting m (accepted e)).1).refused
+    entry (container x) = comes x (lowest_free m.containers)
+    entry (policy p) = comes_policy p (lowest_free m.policies)
+
+    pick : (o : Result ⊤ Refusal) → first_refusal (entry_checks s b) ≡ o → Numbers (said (admitting m (read_unless o (entry_said b))).1).refused
+    pick (Ok tt) e = entry (entry_said b)
+    pick (Err f) e = (reason-positive f.reason, entry-within s b f e)

@@ -8,9 +8,9 @@ use Rattle.model.specs.Calls.{Answer, batch_put, said}
 abbrev slot_said : Answer → ℕ
 slot_said a = elim (said a).container [ none ↦ elim (said a).policy [ none ↦ 0 | some q ↦ q ] | some c ↦ c ]
 
--- "two 16-bit numbers for each: 0 and the place, or the refusal and 0"
+-- "two 16-bit numbers for each: 0 and the place, or the refusal and 0"; Note 5: the position "in an answer's second number"
 abbrev pub pair_of : Answer → ℕ × ℕ
-pair_of a = elim (said a).refused [ none ↦ (0, slot_said a) | some n ↦ (n, 0) ]
+pair_of a = elim (said a).refused [ none ↦ (0, slot_said a) | some f ↦ f ]
 
 -- a block was taken whose first number is 0: no refusal has that number
 abbrev pub is_taken : ℕ × ℕ → Bool

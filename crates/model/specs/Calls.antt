@@ -1,6 +1,8 @@
 -- The calls, with their arguments, and what they answer.
 use Rattle.std.specs.Prelude.{Bool, List, [], ◌∷◌, map, ℕ}
 use Rattle.std.proofs.Math.Option.{Option, none, some}
+use Rattle.block.specs.declared.Refusal.{Refusal}
+use Rattle.block.specs.Refusal.{reason_number}
 use Rattle.model.specs.declared.Finding.{Finding}
 use Rattle.model.specs.declared.Tally.{Tally}
 use Rattle.model.specs.Findings.{Place, place_of, moved, finding_code}
@@ -35,8 +37,9 @@ pub data Call : Type 0 where
   ask : Query → Call
 
 pub data Answer : Type 0 where
-  -- "The call then returns its number alone."
-  refusal : ℕ → Answer
+  -- "The call then returns its number alone." Document 02, Note 5: of open, admit and a batch the position at fault comes with it. It is 0
+  -- where a refusal is of no place in a block, and so of every other call.
+  refusal : ℕ → ℕ → Answer
   done : Answer
   container_at : ℕ → Answer
   policy_at : ℕ → Answer
@@ -53,6 +56,9 @@ pub data Answer : Type 0 where
   -- of a batch: the two numbers of each block, put into the list that was lent, and the tally brought up to date
   batch_put : List (ℕ × ℕ) → Tally → Answer
 
+abbrev pub refusal_of : Refusal → Answer
+refusal_of f = refusal (reason_number f.reason) f.position
+
 abbrev pub found_answer : Option Finding → Answer
 found_answer none = no_finding
 found_answer (some g) = found g (place_of g)
@@ -63,7 +69,7 @@ findings_answer c l = findings_put (map finding_code l) (moved c l)
 
 -- The parts of an answer that something above asks for, each where the answer has it.
 pub record Said : Type 0 where
-  pub refused : Option ℕ
+  pub refused : Option (ℕ × ℕ)
   pub finding : Option (Finding × Place)
   pub put : Option (List ℕ × Place)
   pub counts : Option (ℕ × ℕ × ℕ)
@@ -72,12 +78,12 @@ pub record Said : Type 0 where
   pub policy : Option ℕ
   pub batch : Option (List (ℕ × ℕ) × Tally)
 
-abbrev saying : Option ℕ → Option (Finding × Place) → Option (List ℕ × Place) → Option (ℕ × ℕ × ℕ) → Option (List ℕ) → Option ℕ → Option ℕ → Option (List (ℕ × ℕ) × Tally) → Said
+abbrev saying : Option (ℕ × ℕ) → Option (Finding × Place) → Option (List ℕ × Place) → Option (ℕ × ℕ × ℕ) → Option (List ℕ) → Option ℕ → Option ℕ → Option (List (ℕ × ℕ) × Tally) → Said
 saying r f p n w c q b = record { refused = r; finding = f; put = p; counts = n; file = w; container = c; policy = q; batch = b }
 
 -- The one function by cases of an answer.
 abbrev pub said : Answer → Said
-said (refusal n) = saying (some n) none none none none none none none
+said (refusal n p) = saying (some (n, p)) none none none none none none none
 said done = saying none none none none none none none none
 said (container_at c) = saying none none none none none (some c) none none
 said (policy_at q) = saying none none none none none none (some q) none

@@ -5,14 +5,14 @@ use Rattle.std.specs.Prelude.{Result, Ok, Err, ⊤}
 use Rattle.block.specs.declared.Refusal.{Refusal}
 use Rattle.block.specs.Cut.{blocks_of}
 use Rattle.block.specs.Entry.{Container, Policy, Entry, container, policy}
-use Rattle.block.specs.Refusal.{reason_number, first_refusal}
+use Rattle.block.specs.Refusal.{first_refusal}
 use Rattle.block.specs.Reader.{settings_said, entry_said}
 use Rattle.model.specs.Table.{on, at, lowest_free}
 use Rattle.model.specs.Rules.{carries}
 use Rattle.model.specs.Findings.{containers_of, policies_of, next_after, walk, pairs}
 use Rattle.model.specs.Calls.{Query, ask_reaches, ask_user, next_finding, list_findings, counts, audit, write}
 use Rattle.model.specs.Calls.{Call, open_with, change, admit, admit_batch, remove_container, remove_policy, rebuild, ask}
-use Rattle.model.specs.Calls.{Answer, refusal, done, container_at, policy_at, says, counted, file_put, found_answer, findings_answer, run}
+use Rattle.model.specs.Calls.{Answer, refusal, refusal_of, done, container_at, policy_at, says, counted, file_put, found_answer, findings_answer, run}
 use Rattle.model.specs.Batch.{batch_outcome}
 use Rattle.model.specs.File.{file_of}
 use Rattle.model.specs.Registry.{Registry, consistent, change_container, change_policy, opened, rebuilt}
@@ -21,11 +21,11 @@ use Rattle.model.specs.Refusals.{admit_checks, refusals}
 module _ (r : Registry) where
   -- "A new entry takes the lowest free place of its table."
   unfoldable pub admit_container : Container → Option ℕ → Registry × Answer
-  admit_container x none = (r, refusal 12)
+  admit_container x none = (r, refusal 12 0)
   admit_container x (some c) = (change_container r c (some x), container_at c)
 
   unfoldable pub admit_policy : Policy → Option ℕ → Registry × Answer
-  admit_policy p none = (r, refusal 12)
+  admit_policy p none = (r, refusal 12 0)
   admit_policy p (some q) = (change_policy r q p (some p), policy_at q)
 
   unfoldable pub admit_entry : Entry → Registry × Answer
@@ -34,10 +34,10 @@ module _ (r : Registry) where
 
   unfoldable pub admit_unless : List ℕ → Result ⊤ Refusal → Registry × Answer
   admit_unless b (Ok tt) = admit_entry (entry_said b)
-  admit_unless b (Err f) = (r, refusal (reason_number f.reason))
+  admit_unless b (Err f) = (r, refusal_of f)
 
   unfoldable pub take_policy : ℕ → Option Policy → Registry × Answer
-  take_policy q none = (r, refusal 11)
+  take_policy q none = (r, refusal 11 0)
   take_policy q (some p) = (change_policy r q p none, done)
 
   -- what a query that no check refuses is answered, from the entries and the stored bits
@@ -66,10 +66,10 @@ module _ (r : Registry) where
   accepted_step (change rebuild) = (rebuilt r, done)
   accepted_step (ask q) = (r, answer_to r q)
 
-  -- refused, the call returns the number alone and changes nothing
+  -- refused, the call answers the refusal and changes nothing
   unfoldable pub unless_refused : Call → Result ⊤ Refusal → Registry × Answer
   unless_refused call (Ok tt) = accepted_step call
-  unless_refused call (Err f) = (r, refusal (reason_number f.reason))
+  unless_refused call (Err f) = (r, refusal_of f)
 
 unfoldable pub registry_step : Registry → Call → Registry × Answer
 registry_step r call = unless_refused r call (first_refusal (refusals r call))

@@ -7,10 +7,10 @@ use Rattle.std.specs.Prelude.{Ok, Err}
 use Rattle.block.specs.declared.Refusal.{Refusal}
 use Rattle.block.specs.declared.Settings.{Settings as SettingsWords}
 use Rattle.block.specs.Entry.{Settings}
-use Rattle.block.specs.Refusal.{reason_number, Read, refused, accepted}
+use Rattle.block.specs.Refusal.{Read, refused, accepted}
 use Rattle.block.specs.Reader.{read_settings}
 use Rattle.block.specs.Reading.{settings_words, settings_of, read_words}
-use Rattle.model.specs.Calls.{open_with, refusal, done}
+use Rattle.model.specs.Calls.{open_with, refusal_of, done}
 use Rattle.model.specs.Registry.{opened}
 use Rattle.store.specs.Layout.{memory_words}
 use Rattle.formed.specs.Registry.{image}
@@ -31,7 +31,7 @@ accepted_as (accepted s) w e = let h : settings_words s ≡ w = cc in (s, refl, 
 -- ---- open
 
 module _ (m b : List ℕ) (whole : length m ≡ memory_words) where
-  pub open-refused-by : (f : Refusal) → read_words (read_settings b) ≡ Err f → memory_step m (open_with b) ≡ (m, refusal (reason_number f.reason))
+  pub open-refused-by : (f : Refusal) → read_words (read_settings b) ≡ Err f → memory_step m (open_with b) ≡ (m, refusal_of f)
   open-refused-by f e = open-refused m b whole f (refused_as (read_settings b) f e)
 
   pub open-answer : (m' : List ℕ) (w : SettingsWords) → read_words (read_settings b) ≡ Ok w → m' ≡ image (opened (settings_of w)) → memory_step m (open_with b) ≡ (m', done)

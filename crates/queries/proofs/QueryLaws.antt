@@ -10,8 +10,9 @@ use borrow.Author.Tests.{leb-false, lt-leb}
 use Rattle.bitrow.specs.Bit.{bit}
 use Rattle.std.specs.Prelude.{Ok, Err, ⊤, Result}
 use Rattle.block.specs.declared.Reason.{Reason}
+use Rattle.block.specs.declared.Reason.TheVariants.{BeyondTable, FreeSlot}
 use Rattle.block.specs.declared.Refusal.{Refusal}
-use Rattle.block.specs.Refusal.{reason_number, first_refusal}
+use Rattle.block.specs.Refusal.{reason_number, lone_refusal, first_refusal}
 use Rattle.model.specs.Table.{Table, at, on, stands, free}
 use Rattle.model.specs.Rules.{carries}
 use Rattle.model.specs.Model.{container_slots}
@@ -70,23 +71,25 @@ module _ (m : List ℕ) (formed : well_formed m ≡ true) where
       abbrev tests : ℕ → Result ⊤ Refusal
       tests i = slot_tests (leb container_slots i) (free_in m containers_start container_words i)
 
-      pair-refused : (f : Refusal) → f.reason ≡ r → or_refusal (tests a) (tests b) ≡ Err f → memory_step m (ask (ask_reaches a b)) ≡ (m, refusal (reason_number r))
+      pair-refused : or_refusal (tests a) (tests b) ≡ Err (lone_refusal r) → memory_step m (ask (ask_reaches a b)) ≡ (m, refusal (reason_number r) 0)
       unfolding refusals registry_in
-      pair-refused f w e =
-          step-refused m formed (ask (ask_reaches a b)) f
+      pair-refused e =
+          step-refused m formed (ask (ask_reaches a b)) (lone_refusal r)
           (pair-checks container_slots (model_in m).containers (free_in m containers_start container_words) (tabled-free (container_tabled m)) a b (lt-leb container_slots b k) ∙ e)
-          ∙ ap (λ x. (m, refusal (reason_number x))) w
 
-      pub reaches-refused-left : container_test a ≡ Err r → memory_step m (ask (ask_reaches a b)) ≡ (m, refusal (reason_number r))
-      unfolding slot_test or_refusal
-      reaches-refused-left e = let f = reason_for (tests a) e in pair-refused f.0 f.2 (ap (λ x. or_refusal x (tests b)) f.1)
+      test-refused : (i : ℕ) → container_test i ≡ Err r → tests i ≡ Err (lone_refusal r)
+      unfolding slot_test
+      test-refused i e = reason_for BeyondTable (leb container_slots i) FreeSlot (free_in m containers_start container_words i) e
 
-      pub reaches-refused-right : {u : ⊤} → container_test a ≡ Ok u → container_test b ≡ Err r → memory_step m (ask (ask_reaches a b)) ≡ (m, refusal (reason_number r))
+      pub reaches-refused-left : container_test a ≡ Err r → memory_step m (ask (ask_reaches a b)) ≡ (m, refusal (reason_number r) 0)
+      unfolding or_refusal
+      reaches-refused-left e = pair-refused (ap (λ x. or_refusal x (tests b)) (test-refused a e))
+
+      pub reaches-refused-right : {u : ⊤} → container_test a ≡ Ok u → container_test b ≡ Err r → memory_step m (ask (ask_reaches a b)) ≡ (m, refusal (reason_number r) 0)
       unfolding slot_test or_refusal
       reaches-refused-right {u} e g =
           let p = passed_for (tests a) e in
-          let f = reason_for (tests b) g in
-          pair-refused f.0 f.2 (ap (λ x. or_refusal x (tests b)) p ∙ f.1)
+          pair-refused (ap (λ x. or_refusal x (tests b)) p ∙ test-refused b g)
 
     -- the stored bit
     pub reaches-answer : (t : Bool) → Stands a → Stands b → t ≡ bit (word_at m (row_start a + b / 64)) (b % 64) → memory_step m (ask (ask_reaches a b)) ≡ (m, says t)

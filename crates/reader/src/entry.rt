@@ -20,9 +20,6 @@ pub fn test_entry(settings: Settings, block: &[u8]) -> Result<Sort, Refusal>
             entry_layouts::policy_test(bytes, end)?;
             Ok(Sort::Policy)
         }
-        _ => Err(Refusal {
-            reason: Reason::Kind,
-            position: 0,
-        }),
+        _ => Err(Reason::Kind.into()),
     }
 }

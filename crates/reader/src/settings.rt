@@ -1,7 +1,9 @@
 // A block of settings: its test, and what it says.
 ghost use Rattle.std.specs.Prelude.{◌≡◌};
 ghost use Rattle.block.specs.Refusal.{first_refusal};
-ghost use Rattle.block.specs.Reader.{settings_fault, settings_checks, read_settings};
+ghost use Rattle.block.specs.Fault.{field_fault};
+ghost use Rattle.block.specs.Reader.{settings_fields, settings_checks, read_settings};
+ghost use Rattle.block.specs.Positions.{First, FieldAt};
 ghost use Rattle.block.specs.Reading.{read_words};
 ghost use Rattle.reader.specs.Settings.{value_fits, system_fault};
 
@@ -26,10 +28,11 @@ fn system_fault(key: u64, value: u64) -> Option<usize>
     faults::unless(key <= 64, 2).or(faults::unless(value_fits(key, value), 4))
 }
 
-// The user key, then the system label.
-#[tactic(auto, unfolding(block::specs::Reader::settings_fault))]
+// The first field at fault: the user key, then the system label.
+#[tactic(auto, using(block::proofs::Positions::firsts), unfolding(block::specs::Reader::settings_fields))]
 fn settings_fault(block: &[u8; 512]) -> Option<usize>
-    ensures { result ≡ settings_fault block.now }
+    ensures value { result ≡ field_fault (settings_fields block.now) }
+    ensures first { First (FieldAt (settings_fields block.now)) result }
 {
     let user = faults::unless(block_bytes::within(1, 64, u64::from(block[1])), 1);
     let key = u64::from(block[2]);
@@ -38,7 +41,7 @@ fn settings_fault(block: &[u8; 512]) -> Option<usize>
 }
 
 // The test of a block of settings, all but its length.
-#[tactic(auto, unfolding(block::specs::Reader::settings_checks))]
+#[tactic(auto, unfolding(block::specs::Reader::settings_checks, block::specs::Reader::settings_unused))]
 fn settings_test(block: &[u8; 512]) -> Result<(), Refusal>
     ensures { result ≡ first_refusal (settings_checks block.now) }
 {

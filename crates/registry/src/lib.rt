@@ -7,7 +7,7 @@ ghost use Rattle.store.specs.Layout.{memory_words};
 pub use admission::admit;
 pub use answers::{Admitted, Counts};
 pub use batches::admit_batch;
-pub use block::Reason;
+pub use block::{Reason, Refusal};
 pub use findings::Put;
 pub use model::Tally;
 pub use opening::open;

@@ -7,11 +7,14 @@ use native.Mathlib.Omega.{arith}
 use lib.Dec.{eqb}
 use lib.ListN.{length}
 use borrow.Author.Tests.{eqb-true, eqb-false}
+use Rattle.block.specs.declared.Refusal.{Refusal}
+use Rattle.block.specs.Refusal.{reason_number}
 use Rattle.model.specs.Findings.{containers_of, policies_of, pairs}
-use Rattle.model.specs.Calls.{Call, ask, counts, Answer, refusal, counted, written}
+use Rattle.model.specs.Calls.{Call, ask, counts, Answer, refusal, refusal_of, counted, written}
 use Rattle.steps.specs.MemoryStep.{memory_step}
 use Rattle.formed.specs.Registry.{model_in, bits_in, well_formed}
 use Rattle.store.specs.Layout.{memory_words}
+use Rattle.steps.proofs.Positions.{refused-within}
 use Rattle.steps.proofs.Outcomes.{step-size, step-formed, counts-answers}
 use Rattle.codes.specs.Codes.{code_of}
 use Rattle.codes.proofs.Few.{containers-few, policies-few, pairs-fit}
@@ -22,6 +25,10 @@ pub put-coded : (m : List ℕ) (call : Call) (a b : Answer) (n : ℕ) → ◌≡
 put-coded m call a b n h k s q =
     k ∙ ap (λ x. length (written x.1)) (sym h) ∙ ap (λ x. length (written x)) s ∙ sym q ∙ ap code_of (sym s)
 
+-- the position of a refusal that a call answers
+pub position-fits : (m m' : List ℕ) (call : Call) (f : Refusal) → ◌≡◌ {A = List ℕ × Answer} (m', refusal_of f) (memory_step m call) → f.position ≤ 510
+position-fits m m' call f e = refused-within m call (reason_number f.reason) f.position (sym (ap (λ s. s.1) e))
+
 -- what counts answers fits
 pub record CountsFit (c q n : ℕ) : Type 0 where
   pub containers : c ≤ 256
@@ -31,7 +38,7 @@ pub record CountsFit (c q n : ℕ) : Type 0 where
 pub counts-fit : (m : List ℕ) (c q n : ℕ) → ◌≡◌ {A = List ℕ × Answer} (m, counted c q n) (memory_step m (ask counts)) → CountsFit c q n
 counts-fit m c q n e = pick (eqb (length m) memory_words) refl (well_formed m) refl
   where
-    never : {A : Type 0} (k : ℕ) → counted c q n ≡ refusal k → A
+    never : {A : Type 0} (k : ℕ) → counted c q n ≡ refusal k 0 → A
     never k h = let z : ◌≡◌ {A = ℕ} 0 1 = cc in absurd (omega arith)
 
     pick : (t : Bool) → eqb (length m) memory_words ≡ t → (u : Bool) → well_formed m ≡ u → CountsFit c q n

@@ -1,6 +1,7 @@
 // The calls as C, Rust and others make them, which `bihokura_c` exports: numbers and slices only. An answer is one number: the
 // refusal's number in the top byte, 0 where the call was accepted, and below it the slot, 0 or 1, the finding, how many findings
-// were put into a list, the counts, or how many bytes were written.
+// were put into a list, the counts, or how many bytes were written. A refused open, admit or batch has the position at fault in the low
+// 16 bits.
 // Kept: the C interface: numbers for slots, kinds and values, and the names that `bihokura_c` exports.
 #![tactic(auto, unfolding(codes::specs::Codes::coded_step))]
 
@@ -31,7 +32,7 @@ fn wide(count: usize) -> u64
     count as u64
 }
 
-// Of a call that gives no value.
+// Of a removal or a rebuild.
 fn outcome_code(answer: Result<(), Reason>) -> u64
     ensures { result ≡ code_of (outcome_answer answer) }
 {
@@ -60,7 +61,10 @@ pub fn bihokura_words() -> u64
 pub fn bihokura_open(memory: &mut [u64], block: &[u8]) -> u64
     ensures { (memory.new, result) ≡ coded_step memory.old (open_with block.now) }
 {
-    outcome_code(registry::open(memory, block))
+    match registry::open(memory, block) {
+        Ok(()) => 0,
+        Err(refusal) => codes::refused_at(refusal),
+    }
 }
 
 pub fn bihokura_admit(memory: &mut [u64], block: &[u8]) -> u64
@@ -71,7 +75,7 @@ pub fn bihokura_admit(memory: &mut [u64], block: &[u8]) -> u64
             Admitted::Container(slot) => wide(slot.0),
             Admitted::Policy(slot) => wide(slot.0),
         },
-        Err(reason) => codes::refused(reason),
+        Err(refusal) => codes::refused_at(refusal),
     }
 }
 
@@ -90,7 +94,7 @@ pub fn bihokura_admit_batch(
             *tally = after;
             0
         }
-        Err(reason) => codes::refused(reason),
+        Err(refusal) => codes::refused_at(refusal),
     }
 }
 

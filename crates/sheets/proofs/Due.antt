@@ -86,7 +86,7 @@ module _ (k b i : List ℕ) (whole : length k ≡ 512) where
   block-open m t c h w (refused r) e q =
       subst (λ (x : List ℕ × Answer). Onward t (with_block k c (opens x)) i) (sym (open-refused m b h r e)) (record {
         rest = [];
-        text = q ∙ sym (append-nil (refused_line 1 (reason_number r.reason)));
+        text = q ∙ sym (append-nil (refused_line 1 (reason_number r.reason, r.position)));
         size = whole;
         due = refl;
       })
@@ -137,7 +137,7 @@ admitted-first (b ∷ l) others n w =
 -- ---- a piece
 
 abbrev pub at_end : Bool → List ℕ × State
-at_end u = cond u (refused_line 1 3, Finished) ([], Counting)
+at_end u = cond u (refused_line 1 (3, 0), Finished) ([], Counting)
 
 module _ (m k p q t : List ℕ) (ended : Bool) (n f : ℕ) (whole : length k ≡ 512) (fin : ended ≡ true → q ≡ []) (g : DueBlocks n f m k (p ++ q) t) where
   abbrev c : ℕ
@@ -201,7 +201,7 @@ module _ (m k p q t : List ℕ) (ended : Bool) (n f : ℕ) (whole : length k ≡
       finish : AfterBlocks n m (take f k ++ (p ++ q)) t → Onward t (left m filled_block (end_of n).0 (end_of n).1 c) (drop c p ++ q)
       finish (before-first y h e) =
           subst (λ (u : Bool). Onward t (left m filled_block (at_end u).0 (at_end u).1 c) (drop c p ++ q)) (sym (eq-eqb n 0 y))
-          (record { rest = []; text = e ∙ ap sheet_of none_left ∙ sym (append-nil (refused_line 1 3)); size = piece-size; due = refl })
+          (record { rest = []; text = e ∙ ap sheet_of none_left ∙ sym (append-nil (refused_line 1 (3, 0))); size = piece-size; due = refl })
       finish (after-some y v h e) =
           subst (λ (u : Bool). Onward t (left m filled_block (at_end u).0 (at_end u).1 c) (drop c p ++ q)) (sym (ne_eqb n 0 y))
           (record { rest = t; text = refl; size = piece-size; due = record { w = v; holds = h; text = e ∙ ap (lines_from (n + 1) v) none_left } })

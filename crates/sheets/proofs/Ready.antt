@@ -9,7 +9,6 @@ use lib.Dec.{eqb, ltb}
 use lib.ListN.{length}
 use lib.Seq.{paste}
 use borrow.Author.Tests.{eqb-true, eqb-false}
-use Rattle.block.specs.Cut.{blocks_of}
 use Rattle.block.specs.Entry.{Settings}
 use Rattle.block.specs.Refusal.{Read, refused, accepted}
 use Rattle.block.specs.Reader.{read_settings}
@@ -31,7 +30,7 @@ use Rattle.sheets.specs.Pieces.{share, waits, take_with, take_one, whole_blocks,
 use Rattle.sheets.specs.Closing.{after_counts, count_step, cursor_to, lines_in, listing, list_step}
 use Rattle.sheets.specs.Step.{report_step, Ready}
 use Rattle.sheets.proofs.BlockLaws.{one_of}
-use Rattle.sheets.proofs.PieceLaws.{take_last, take_on, with-more, with-end, with-block, Several, whole-several, take-one, take-several}
+use Rattle.sheets.proofs.PieceLaws.{take_last, take_on, with-more, with-end, with-block, whole-several, take-one, take-several}
 use Rattle.sheets.proofs.Kept.{holds-open, holds-placed, holds-block, holds-itself, rebuilt-formed}
 use Rattle.sheets.proofs.Due.{at_end}
 

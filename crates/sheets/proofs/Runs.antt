@@ -81,7 +81,7 @@ Begins Counting = ⊥
 Begins (Listing c) = ⊥
 Begins Finished = Unit
 
-begins-opened : (o : Option ℕ) → Begins (elim o [ none ↦ Taking 1 0 | some r ↦ Finished ])
+begins-opened : (o : Option (ℕ × ℕ)) → Begins (elim o [ none ↦ Taking 1 0 | some r ↦ Finished ])
 begins-opened none = refl
 begins-opened (some r) = tt
 

@@ -42,7 +42,7 @@ use Rattle.sheets.proofs.Leads.{walk-rises}
 
 module _ (m : List ℕ) (p : Place) (n : ℕ) where
   -- the answer is a refusal, or the findings of a well-formed memory
-  findings-or : (P : Answer → Type 0) → ((r : ℕ) → P (refusal r)) → (well_formed m ≡ true → P (findings_answer p (walk (next_in m) n p))) → P (memory_step m (ask (list_findings p n))).1
+  findings-or : (P : Answer → Type 0) → ((r : ℕ) → P (refusal r 0)) → (well_formed m ≡ true → P (findings_answer p (walk (next_in m) n p))) → P (memory_step m (ask (list_findings p n))).1
   findings-or P declined formed = pick (ℕ_discrete (length m) memory_words) (well_formed m) refl
     where
       by : (x : List ℕ × Answer) → memory_step m (ask (list_findings p n)) ≡ x → P x.1 → P (memory_step m (ask (list_findings p n))).1
@@ -50,8 +50,8 @@ module _ (m : List ℕ) (p : Place) (n : ℕ) where
 
       pick : Dec (length m ≡ memory_words) → (t : Bool) → well_formed m ≡ t → P (memory_step m (ask (list_findings p n))).1
       pick d true e = by (m, findings_answer p (walk (next_in m) n p)) (findings-answers m e p n) (formed e)
-      pick (yes h) false e = by (m, refusal 2) (step-formed m (ask (list_findings p n)) h e refl) (declined 2)
-      pick (no h) false e = by (m, refusal 1) (step-size m (ask (list_findings p n)) h) (declined 1)
+      pick (yes h) false e = by (m, refusal 2 0) (step-formed m (ask (list_findings p n)) h e refl) (declined 2)
+      pick (no h) false e = by (m, refusal 1 0) (step-size m (ask (list_findings p n)) h) (declined 1)
 
 -- a buffer that a line of refusal fits in has room for some findings
 pub lines-some : (room : ℕ) → 128 ≤ room → 0 < lines_in room
@@ -94,7 +94,7 @@ module _ (p : List ℕ) (ended : Bool) (n f : ℕ) (h : f < 512) (w : n ≤ 1844
   near-finished : Near Finished
   near-finished = (omega arith, λ _. omega arith)
 
-  near-opened : n ≡ 0 → (o : Option ℕ) → Near (elim o [ none ↦ Taking 1 0 | some r ↦ Finished ])
+  near-opened : n ≡ 0 → (o : Option (ℕ × ℕ)) → Near (elim o [ none ↦ Taking 1 0 | some r ↦ Finished ])
   near-opened z none = (omega arith, λ _. omega (arith, z, h))
   near-opened z (some r) = near-finished
 

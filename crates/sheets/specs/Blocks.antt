@@ -49,7 +49,7 @@ admits_all m n l = (image (entries_placed (registry_in m) l), admitted_lines (mo
 
 -- the end of the input, at the end of a block
 abbrev pub end_of : ℕ → List ℕ × State
-end_of n = cond (eqb n 0) (refused_line 1 3, Finished) ([], Counting)
+end_of n = cond (eqb n 0) (refused_line 1 (3, 0), Finished) ([], Counting)
 
 -- What a call that took a block left is what is said.
 pub record Takes (x : Taken) (m o e : List ℕ) (r : Told) : Type 0 where

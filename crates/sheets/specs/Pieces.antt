@@ -34,10 +34,10 @@ take_one m k p ended n f =
 
 -- ---- several blocks
 
--- how many whole blocks a step takes at once of so many bytes, after n others: at most 128, no more than lines of 64 bytes find room,
+-- how many whole blocks a step takes at once of so many bytes, after n others: at most 128, no more than lines of 72 bytes find room,
 -- and none beyond the last number of a block
 unfoldable pub blocks_at_once : ℕ → ℕ → ℕ → ℕ
-blocks_at_once room bytes n = min 128 (min (bytes / 512) (min (room / 64) (18446744073709551615 - n)))
+blocks_at_once room bytes n = min 128 (min (bytes / 512) (min (room / 72) (18446744073709551615 - n)))
 
 -- after n blocks and f bytes of the next: the first of all, and one that is started, are taken alone
 unfoldable pub whole_blocks : ℕ → ℕ → ℕ → ℕ → ℕ

@@ -1,5 +1,5 @@
--- The whole sheet, from the bytes of the input to the lines, straight from document 01, "The program and one printed sheet". It
--- speaks of the plain book alone: no memory, no stored bit, no piece of input and no buffer.
+-- The whole sheet, from the bytes of the input to the lines, straight from document 01, "The program and one printed sheet", and document
+-- 02, Note 5. It speaks of the plain book alone: no memory, no stored bit, no piece of input and no buffer.
 use Rattle.std.specs.Prelude.{List, [], ◌∷◌, ◌++◌, ℕ, ◌+◌, length}
 use Rattle.block.specs.Entry.{Settings}
 use Rattle.block.specs.Refusal.{Read, refused, accepted, reason_number}
@@ -23,12 +23,12 @@ lines_from n m (b ∷ l) = let r = model_step m (change (admit b)) in refused_by
 
 -- "The first opens": "If open is refused .. that line is all."
 unfoldable pub sheet_from : Read Settings → List (List ℕ) → List ℕ
-sheet_from (refused f) l = refused_line 1 (reason_number f.reason)
+sheet_from (refused f) l = refused_line 1 (reason_number f.reason, f.position)
 sheet_from (accepted s) l = lines_from 2 (empty s) l
 
--- "or the input is empty (`REFUSED 1 3`)"
+-- "or the input is empty (`REFUSED 1 3`)"; document 02, Note 5: "For .. 3 .. it is 0"
 unfoldable pub sheet_of : List (List ℕ) → List ℕ
-sheet_of [] = refused_line 1 3
+sheet_of [] = refused_line 1 (3, 0)
 sheet_of (b ∷ l) = sheet_from (read_settings b) l
 
 -- "reads blocks from standard input"

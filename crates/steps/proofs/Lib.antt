@@ -2,6 +2,7 @@
 pub mod NumbersMet
 pub mod Outcomes
 pub mod Refused
+pub mod Positions
 pub mod Valid
 pub mod Refinement
 pub mod StaysFormed

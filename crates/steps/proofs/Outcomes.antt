@@ -13,7 +13,7 @@ use Rattle.block.specs.declared.Reason.TheVariants.{MemorySize, NotWellFormed, B
 use Rattle.block.specs.Cut.{blocks_of}
 use Rattle.block.specs.Entry.{Container, Policy, Settings, Entry, container, policy}
 use Rattle.block.specs.declared.Refusal.{Refusal}
-use Rattle.block.specs.Refusal.{reason_number, Check, check, first_refusal, refused, accepted}
+use Rattle.block.specs.Refusal.{Check, check, first_refusal, refused, accepted}
 use Rattle.block.specs.Refusal.{read_unless}
 use Rattle.block.specs.Reader.{settings_checks, entry_checks, settings_said, entry_said, read_settings, read_entry}
 use Rattle.model.specs.declared.Tally.{Tally}
@@ -24,7 +24,7 @@ use Rattle.model.specs.Model.{container_slots, policy_slots}
 use Rattle.model.specs.Findings.{containers_of, policies_of, next_after, walk, pairs}
 use Rattle.model.specs.Calls.{ask_reaches, ask_user, next_finding, list_findings, counts, audit, write}
 use Rattle.model.specs.Calls.{Call, Change, Query, open_with, change, admit, admit_batch, remove_container, remove_policy, rebuild, ask}
-use Rattle.model.specs.Calls.{refusal, done, container_at, policy_at, says, counted, file_put, found_answer, findings_answer, run}
+use Rattle.model.specs.Calls.{refusal, refusal_of, done, container_at, policy_at, says, counted, file_put, found_answer, findings_answer, run}
 use Rattle.model.specs.Batch.{batch_answer}
 use Rattle.model.specs.File.{file_of}
 use Rattle.model.specs.Registry.{computed, consistent, change_container, change_policy, opened, rebuilt}
@@ -41,7 +41,7 @@ use Rattle.steps.specs.MemoryStep.{formed_check, meets_formed, memory_refusals, 
 
 -- ---- the two outcomes. All that follows cites these, so that a wrong outcome is met here and explained once
 
-pub refused-outcome : (m : List ℕ) (call : Call) (f : Refusal) → memory_outcome m call (Err f) ≡ (m, refusal (reason_number f.reason))
+pub refused-outcome : (m : List ℕ) (call : Call) (f : Refusal) → memory_outcome m call (Err f) ≡ (m, refusal_of f)
 refused-outcome m call f = refl
 
 pub accepted-outcome : (m : List ℕ) (call : Call) → memory_outcome m call (Ok tt)
@@ -61,7 +61,7 @@ changed-outcome m c =
 
 module _ (m : List ℕ) (call : Call) where
   -- 1
-  pub step-size : (length m ≡ memory_words → ⊥) → memory_step m call ≡ (m, refusal 1)
+  pub step-size : (length m ≡ memory_words → ⊥) → memory_step m call ≡ (m, refusal 1 0)
   unfolding memory_step memory_refusals
   step-size h =
       ap (λ t. memory_outcome m call (first_refusal (check MemorySize (where0 (not t)) ∷ (meets_formed m call ++ refusals (registry_in m) call))))
@@ -75,7 +75,7 @@ module _ (m : List ℕ) (call : Call) where
       (eq-eqb (length m) memory_words h)
 
   -- 2, of a call that meets it
-  pub step-formed : length m ≡ memory_words → well_formed m ≡ false → meets_formed m call ≡ formed_check m → memory_step m call ≡ (m, refusal 2)
+  pub step-formed : length m ≡ memory_words → well_formed m ≡ false → meets_formed m call ≡ formed_check m → memory_step m call ≡ (m, refusal 2 0)
   step-formed h w e =
       past-size h
       ∙ ap (λ cs. memory_outcome m call (first_refusal (cs ++ refusals (registry_in m) call))) e
@@ -99,7 +99,7 @@ module _ (m : List ℕ) where
   step_past w call = past-size m call (formed-memory m w).whole ∙ ap (memory_outcome m call) (past-formed w call (refusals (registry_in m) call))
 
   pub step-refused : well_formed m ≡ true → (call : Call) (f : Refusal) → first_refusal (refusals (registry_in m) call) ≡ Err f
-      → memory_step m call ≡ (m, refusal (reason_number f.reason))
+      → memory_step m call ≡ (m, refusal_of f)
   step-refused w call f e = step_past w call ∙ ap (memory_outcome m call) e ∙ refused-outcome m call f
 
   -- a change, and a call that asks
@@ -163,7 +163,7 @@ module _ (m b : List ℕ) (whole : length m ≡ memory_words) where
   unfolding refusals
   open-past = past-size m (open_with b) whole
 
-  pub open-refused : (f : Refusal) → read_settings b ≡ refused f → memory_step m (open_with b) ≡ (m, refusal (reason_number f.reason))
+  pub open-refused : (f : Refusal) → read_settings b ≡ refused f → memory_step m (open_with b) ≡ (m, refusal_of f)
   unfolding read_settings
   open-refused f e =
       open-past ∙ ap (memory_outcome m (open_with b)) (read-refused (first_refusal (settings_checks b)) (settings_said b) f e) ∙ refused-outcome m (open_with b) f
@@ -186,7 +186,7 @@ module _ (m : List ℕ) (formed : well_formed m ≡ true) where
     abbrev room : Entry → List Check
     room x = check TableFull (where0 (no_room (model_in m) x)) ∷ []
 
-    pub admit-refused : (f : Refusal) → read_entry (model_in m).settings b ≡ refused f → memory_step m (change (admit b)) ≡ (m, refusal (reason_number f.reason))
+    pub admit-refused : (f : Refusal) → read_entry (model_in m).settings b ≡ refused f → memory_step m (change (admit b)) ≡ (m, refusal_of f)
     unfolding read_entry refusals admit_checks registry_in
     admit-refused f e =
         step-refused m formed (change (admit b)) f
@@ -195,22 +195,22 @@ module _ (m : List ℕ) (formed : well_formed m ≡ true) where
     -- a block that is read: 12, or what the entry does
     admit-read : (x : Entry) → read_entry (model_in m).settings b ≡ accepted x
         → memory_step m (change (admit b))
-        ≡ cond (no_room (model_in m) x) (m, refusal 12) (image (admit_entry (registry_in m) x).0, (admit_entry (registry_in m) x).1)
+        ≡ cond (no_room (model_in m) x) (m, refusal 12 0) (image (admit_entry (registry_in m) x).0, (admit_entry (registry_in m) x).1)
     unfolding read_entry refusals admit_checks registry_in accepted_step
     admit-read x e =
         let h = read-accepted (first_refusal asked) (entry_said b) x e in
         step_past m formed (change (admit b))
         ∙ ap (memory_outcome m (change (admit b))) (append-passed asked (room (entry_said b)) h.0)
         ∙ pick (no_room (model_in m) (entry_said b))
-        ∙ ap (λ v. cond (no_room (model_in m) v) (m, refusal 12) (image (admit_entry (registry_in m) v).0, (admit_entry (registry_in m) v).1)) h.1
+        ∙ ap (λ v. cond (no_room (model_in m) v) (m, refusal 12 0) (image (admit_entry (registry_in m) v).0, (admit_entry (registry_in m) v).1)) h.1
       where
         pick : (t : Bool) → memory_outcome m (change (admit b)) (first_refusal (check TableFull (where0 t) ∷ []))
-            ≡ cond t (m, refusal 12) (image (admit_entry (registry_in m) (entry_said b)).0, (admit_entry (registry_in m) (entry_said b)).1)
+            ≡ cond t (m, refusal 12 0) (image (admit_entry (registry_in m) (entry_said b)).0, (admit_entry (registry_in m) (entry_said b)).1)
         pick true = refused-outcome m (change (admit b)) (record { reason = TableFull; position = 0 })
         pick false = changed-outcome m (admit b)
 
     pub admit-container-full : (x : Container) → read_entry (model_in m).settings b ≡ accepted (container x)
-        → lowest_free (model_in m).containers ≡ none → memory_step m (change (admit b)) ≡ (m, refusal 12)
+        → lowest_free (model_in m).containers ≡ none → memory_step m (change (admit b)) ≡ (m, refusal 12 0)
     unfolding no_room
     admit-container-full x e h = admit-read (container x) e ∙ rw (← full-lowest (model_in m).containers, h)
 
@@ -221,7 +221,7 @@ module _ (m : List ℕ) (formed : well_formed m ≡ true) where
     admit-container-done x c e h = admit-read (container x) e ∙ rw (← full-lowest (model_in m).containers, h)
 
     pub admit-policy-full : (p : Policy) → read_entry (model_in m).settings b ≡ accepted (policy p)
-        → lowest_free (model_in m).policies ≡ none → memory_step m (change (admit b)) ≡ (m, refusal 12)
+        → lowest_free (model_in m).policies ≡ none → memory_step m (change (admit b)) ≡ (m, refusal 12 0)
     unfolding no_room
     admit-policy-full p e h = admit-read (policy p) e ∙ rw (← full-lowest (model_in m).policies, h)
 
@@ -233,7 +233,7 @@ module _ (m : List ℕ) (formed : well_formed m ≡ true) where
 
   -- a batch
   module _ (bs : List ℕ) (n : ℕ) (t : Tally) where
-    pub batch-refused : (f : Refusal) → first_refusal (batch_checks bs n) ≡ Err f → memory_step m (change (admit_batch bs n t)) ≡ (m, refusal (reason_number f.reason))
+    pub batch-refused : (f : Refusal) → first_refusal (batch_checks bs n) ≡ Err f → memory_step m (change (admit_batch bs n t)) ≡ (m, refusal_of f)
     unfolding refusals
     batch-refused f e = step-refused m formed (change (admit_batch bs n t)) f e
 
@@ -261,7 +261,7 @@ module _ (m : List ℕ) (formed : well_formed m ≡ true) where
 
   -- whether a reaches b
   module _ (a b : ℕ) where
-    pub reaches-beyond-right : container_slots ≤ b → memory_step m (ask (ask_reaches a b)) ≡ (m, refusal 10)
+    pub reaches-beyond-right : container_slots ≤ b → memory_step m (ask (ask_reaches a b)) ≡ (m, refusal 10 0)
     unfolding refusals registry_in
     reaches-beyond-right h = step-refused m formed (ask (ask_reaches a b)) _ (pair-beyond-right container_slots (model_in m).containers a b h)
 
@@ -305,7 +305,7 @@ module _ (m : List ℕ) (formed : well_formed m ≡ true) where
 
   -- into a buffer of n bytes: 13, or the file
   module _ (n : ℕ) where
-    pub write-short : n < length (file_of (model_in m)) → memory_step m (ask (write n)) ≡ (m, refusal 13)
+    pub write-short : n < length (file_of (model_in m)) → memory_step m (ask (write n)) ≡ (m, refusal 13 0)
     unfolding refusals registry_in
     write-short h = step-refused m formed (ask (write n)) (record { reason = BufferLength; position = 0 }) (rw (lt-ltb n (length (file_of (model_in m))) h))
 

@@ -219,9 +219,9 @@ carried old other formed whole =
 wrote : (m file : List ℕ) (n : ℕ) → (memory_step m (ask (write n))).1 ≡ file_put file → (well_formed m ≡ true) × (file_of (model_in m) ≡ file)
 wrote m file n e = pick (eqb (length m) memory_words) refl (well_formed m) refl (ltb n (length (file_of (model_in m)))) refl
   where
-    never : {A : Type 0} (k : ℕ) → memory_step m (ask (write n)) ≡ (m, refusal k) → A
+    never : {A : Type 0} (k : ℕ) → memory_step m (ask (write n)) ≡ (m, refusal k 0) → A
     never k h =
-        let r : file_put file ≡ refusal k = sym e ∙ ap (λ s. s.1) h in
+        let r : file_put file ≡ refusal k 0 = sym e ∙ ap (λ s. s.1) h in
         let z : ◌≡◌ {A = ℕ} 0 1 = cc in
         absurd (omega arith)
 

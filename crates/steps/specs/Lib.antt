@@ -4,3 +4,4 @@ pub mod NumbersMet
 pub mod Refinement
 pub mod ReadBack
 pub mod Batch
+pub mod Positions

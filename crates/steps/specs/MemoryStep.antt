@@ -3,9 +3,9 @@ use Rattle.std.specs.Prelude.{Bool, true, false, not, cond, List, [], ◌∷◌,
 use Rattle.std.specs.Prelude.{Result, Ok, Err, ⊤}
 use Rattle.block.specs.declared.Refusal.{Refusal}
 use Rattle.block.specs.declared.Reason.TheVariants.{MemorySize, NotWellFormed}
-use Rattle.block.specs.Refusal.{reason_number, Check, check, first_refusal}
+use Rattle.block.specs.Refusal.{Check, check, first_refusal}
 use Rattle.model.specs.Calls.{Call, open_with, change, ask}
-use Rattle.model.specs.Calls.{Answer, refusal}
+use Rattle.model.specs.Calls.{Answer, refusal_of}
 use Rattle.model.specs.Refusals.{where0, refusals}
 use Rattle.model.specs.RegistryStep.{accepted_step}
 use Rattle.store.specs.Layout.{memory_words}
@@ -36,7 +36,7 @@ changes (ask q) = false
 
 -- A refused call and a query leave the memory itself; an accepted change leaves the image of the changed registry.
 abbrev pub memory_outcome : List ℕ → Call → Result ⊤ Refusal → List ℕ × Answer
-memory_outcome m call (Err f) = (m, refusal (reason_number f.reason))
+memory_outcome m call (Err f) = (m, refusal_of f)
 memory_outcome m call (Ok tt) =
     let r = accepted_step (registry_in m) call in
     (cond (changes call) (image r.0) m, r.1)

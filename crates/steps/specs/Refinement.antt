@@ -45,7 +45,7 @@ on_model m (ours call ∷ l) =
     (t.0, record { answer = r.1; other = none } ∷ t.1)
 on_model m (other x e call ∷ l) =
     let t = on_model m l in
-    (t.0, record { answer = refusal 1; other = some x } ∷ t.1)
+    (t.0, record { answer = refusal 1 0; other = some x } ∷ t.1)
 
 -- "A walk calls next finding from 0 0 0, then from each finding given, until there is none": the answers of the call itself, at
 -- most n of them; the cursor handed back is where the next call begins.

@@ -17,7 +17,7 @@ use Rattle.model.specs.declared.Finding.{Finding}
 use Rattle.model.specs.Findings.{finding_code}
 use Rattle.text.specs.Text.{three_numbers}
 use Rattle.model.specs.Calls.{pairs_of}
-use Rattle.text.specs.Lines.{refused_line, number_line, pair_lines, finding_line, finding_lines, code_line, code_lines}
+use Rattle.text.specs.Lines.{refused_line, pair_line, pair_lines, finding_line, finding_lines, code_line, code_lines}
 
 -- findings whose a and b are numbers of 16 bits
 abbrev pub Small : List Finding → Type 0
@@ -99,16 +99,16 @@ pub ruleset pieces = (within_20, puts_behind, puts_none, puts-as)
 
 -- ---- the answers to blocks
 
-pub number-taken : (n r : ℕ) → r ≡ 0 → [] ≡ number_line n r
-unfolding number_line
-number-taken n r e = ap (λ (t : Bool). cond t [] (refused_line n r)) (sym (eq-eqb r 0 e))
+pub pair-taken : (n r s : ℕ) → r ≡ 0 → [] ≡ pair_line n (r, s)
+unfolding pair_line
+pair-taken n r s e = ap (λ (t : Bool). cond t [] (refused_line n (r, s))) (sym (eq-eqb r 0 e))
 
-pub number-refused : (n r : ℕ) → (r ≡ 0 → ⊥) → refused_line n r ≡ number_line n r
-unfolding number_line
-number-refused n r e = ap (λ (t : Bool). cond t [] (refused_line n r)) (sym (ne_eqb r 0 e))
+pub pair-refused : (n r s : ℕ) → (r ≡ 0 → ⊥) → refused_line n (r, s) ≡ pair_line n (r, s)
+unfolding pair_line
+pair-refused n r s e = ap (λ (t : Bool). cond t [] (refused_line n (r, s))) (sym (ne_eqb r 0 e))
 
 -- the line of the first answer, and those behind it
-pub pair_lines-first : (n : ℕ) (x l : List ℕ) → length x ≡ 2 → pair_lines n (pairs_of (x ++ l)) ≡ number_line (n + 1) (get_or x 0 0) ++ pair_lines (n + 1) (pairs_of l)
+pub pair_lines-first : (n : ℕ) (x l : List ℕ) → length x ≡ 2 → pair_lines n (pairs_of (x ++ l)) ≡ pair_line (n + 1) (get_or x 0 0, get_or x 1 0) ++ pair_lines (n + 1) (pairs_of l)
 unfolding pair_lines
 pair_lines-first n [] l h = absurd (omega arith)
 pair_lines-first n (r ∷ []) l h = absurd (omega arith)
@@ -121,4 +121,4 @@ pair_lines-none n [] h = refl
 pair_lines-none n (x ∷ []) h = refl
 pair_lines-none n (x ∷ y ∷ l) h = absurd (omega arith)
 
-pub ruleset answers = (number-taken, number-refused)
+pub ruleset answers = (pair-taken, pair-refused)

@@ -23,22 +23,22 @@ policies_word = 80 ∷ 79 ∷ 76 ∷ 73 ∷ 67 ∷ 73 ∷ 69 ∷ 83 ∷ []
 abbrev pairs_word : List ℕ
 pairs_word = 80 ∷ 65 ∷ 73 ∷ 82 ∷ 83 ∷ []
 
--- "A refused block n (from 1) gives `REFUSED n r`"
-unfoldable pub refused_line : ℕ → ℕ → List ℕ
-refused_line n r = named refused_word n space ++ ended (decimal r) newline
+-- "A refused block n (from 1) gives `REFUSED n r`"; document 02, Note 5: "`lister` prints it as a third number after REFUSED"
+unfoldable pub refused_line : ℕ → ℕ × ℕ → List ℕ
+refused_line n f = named refused_word n space ++ ended (decimal f.0) space ++ ended (decimal f.1) newline
 
 -- what the answer to block n gives
 abbrev pub refused_by : ℕ → Answer → List ℕ
-refused_by n a = elim (said a).refused [ none ↦ [] | some r ↦ refused_line n r ]
+refused_by n a = elim (said a).refused [ none ↦ [] | some f ↦ refused_line n f ]
 
--- what the first of the two numbers that answer block n gives: 0 for a block that was taken, or its refusal
-unfoldable pub number_line : ℕ → ℕ → List ℕ
-number_line n r = cond (eqb r 0) [] (refused_line n r)
+-- what the two numbers that answer block n give: 0 and a slot for a block that was taken, or its refusal and the position
+unfoldable pub pair_line : ℕ → ℕ × ℕ → List ℕ
+pair_line n p = cond (eqb p.0 0) [] (refused_line n p)
 
 -- of the blocks after n others
 unfoldable pub pair_lines : ℕ → List (ℕ × ℕ) → List ℕ
 pair_lines n [] = []
-pair_lines n (p ∷ ps) = number_line (n + 1) p.0 ++ pair_lines (n + 1) ps
+pair_lines n (p ∷ ps) = pair_line (n + 1) p ++ pair_lines (n + 1) ps
 
 -- "one line with the standing counts and PAIRS"
 unfoldable pub counts_line : ℕ → ℕ → ℕ → List ℕ

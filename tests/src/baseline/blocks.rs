@@ -2,6 +2,8 @@
 //! and add nothing to the sum. So only a block that is refused is summed whole. `fast_lister` has this file too, without the
 //! standard library.
 
+use super::{refused, refused_at, Refusal};
+
 pub type Block = [u8; 512];
 
 /// So many labels, key and value in 16 bits each, and then zeros.
@@ -128,53 +130,81 @@ fn accepted(b: &Block) -> Option<Entry> {
     }
 }
 
+/// The lowest byte from one on that is not zero, where there is such a byte.
+fn lowest(b: &Block, from: usize) -> usize {
+    let (mut k, mut w) = (from / 8, word(b, from / 8) & u64::MAX << (8 * (from % 8)));
+    while w == 0 {
+        k += 1;
+        w = word(b, k);
+    }
+    8 * k + w.trailing_zeros() as usize / 8
+}
+
 /// The refusal of a block that is not acceptable: the first that applies.
-fn fault(b: &Block) -> u64 {
+fn fault(b: &Block) -> Refusal {
     if stored(b) != checksum(b) {
-        return 4;
+        return refused_at(4, 510);
     }
-    let (counts, fine) = match b[0] {
-        67 => ([b[1], 0], b[1] <= 8),
-        80 => ([b[2], b[3]], b[2] <= 4 && b[3] <= 4 && (1..=2).contains(&b[1])),
-        _ => return 5,
+    let (first, second) = match b[0] {
+        67 if b[1] > 8 => return refused_at(6, 1),
+        67 => (b[1], 0),
+        80 if b[1] == 0 || b[1] > 2 => return refused_at(6, 1),
+        80 if b[2] > 4 => return refused_at(6, 2),
+        80 if b[3] > 4 => return refused_at(6, 3),
+        80 => (b[2], b[3]),
+        _ => return refused(5),
     };
-    if !fine {
-        return 6;
+    let (first, count) = (usize::from(first), usize::from(first + second));
+    let (all, mut falls) = (labels(b), None);
+    for (k, label) in all[..count].iter().enumerate() {
+        let at = 4 + 4 * k;
+        if key(*label) == 0 || key(*label) > 64 {
+            return refused_at(7, at);
+        }
+        if value(*label) == 0 {
+            return refused_at(7, at + 2);
+        }
+        if k != 0 && k != first && key(*label) <= key(all[k - 1]) {
+            falls = falls.or(Some(at));
+        }
     }
-    let all = labels(b);
-    let (first, others) = all.split_at(usize::from(counts[0]));
-    let second = &others[..usize::from(counts[1])];
-    if first.iter().chain(second).any(|w| !(1..=64).contains(&key(*w)) || value(*w) == 0) {
-        return 7;
+    match falls {
+        Some(at) => refused_at(8, at),
+        None if b[0] == 67 && b[2] | b[3] != 0 => refused_at(9, lowest(b, 2)),
+        None => refused_at(9, lowest(b, 4 + 4 * count)),
     }
-    let rising = |part: &[u32]| part.windows(2).all(|w| key(w[0]) < key(w[1]));
-    if !(rising(first) && rising(second)) {
-        return 8;
-    }
-    9
 }
 
 #[inline]
-pub fn read_entry(b: &[u8]) -> Result<Entry, u64> {
-    let b: &Block = b.try_into().map_err(|_| 3u64)?;
+pub fn read_entry(b: &[u8]) -> Result<Entry, Refusal> {
+    let b: &Block = b.try_into().map_err(|_| refused(3))?;
     accepted(b).ok_or_else(|| fault(b))
 }
 
-pub fn read_settings(b: &[u8]) -> Result<Settings, u64> {
-    let b: &Block = b.try_into().map_err(|_| 3u64)?;
+pub fn read_settings(b: &[u8]) -> Result<Settings, Refusal> {
+    let b: &Block = b.try_into().map_err(|_| refused(3))?;
     let front = is_front(b);
     if stored(b) != if front { front_checksum(b) } else { checksum(b) } {
-        return Err(4);
+        return Err(refused_at(4, 510));
     }
     if b[0] != 83 {
-        return Err(5);
+        return Err(refused(5));
     }
     let (user, key, value) = (b[1], b[2], u16::from_be_bytes([b[4], b[5]]));
-    if user == 0 || user > 64 || key > 64 || (key == 0) != (value == 0) {
-        return Err(7);
+    if user == 0 || user > 64 {
+        return Err(refused_at(7, 1));
     }
-    if !front || b[3] != 0 || b[6..36].iter().any(|x| *x != 0) {
-        return Err(9);
+    if key > 64 {
+        return Err(refused_at(7, 2));
+    }
+    if (key == 0) != (value == 0) {
+        return Err(refused_at(7, 4));
+    }
+    if b[3] != 0 {
+        return Err(refused_at(9, 3));
+    }
+    if !front || b[6..36].iter().any(|x| *x != 0) {
+        return Err(refused_at(9, lowest(b, 6)));
     }
     Ok(Settings { user, key, value })
 }

@@ -172,15 +172,15 @@ impl Came {
         Came { table, slots: EMPTY, from: 0 }
     }
 
-    fn place(&mut self, m: &mut [u64], entry: &Entry) -> [u16; 2] {
+    fn place(&mut self, m: &mut [u64], entry: &Entry) -> Result<u64, Refusal> {
         let Some(i) = free_from(m, self.table, self.from) else {
             self.from = self.table.2;
-            return [12, 0];
+            return Err(refused(12));
         };
         store(m, i, entry);
         put(&mut self.slots, i);
         self.from = i + 1;
-        [0, i as u16]
+        Ok(i as u64)
     }
 }
 
@@ -241,11 +241,11 @@ impl Algorithms for ByLabels {
     fn batch(m: &mut [u64], blocks: &[Block], numbers: &mut [[u16; 2]]) {
         let (mut containers, mut policies) = (Came::to(CONTAINER_TABLE), Came::to(POLICY_TABLE));
         for (block, put) in blocks.iter().zip(numbers) {
-            *put = match read_entry(block) {
+            *put = pair(match read_entry(block) {
                 Ok(entry @ Entry::Container(_)) => containers.place(m, &entry),
                 Ok(entry @ Entry::Policy(..)) => policies.place(m, &entry),
-                Err(n) => [n as u16, 0],
-            };
+                Err(refusal) => Err(refusal),
+            });
         }
         set_came(m, containers.slots, policies.slots);
     }

@@ -82,10 +82,7 @@ impl Algorithms for ByTrials {
 
     fn batch(m: &mut [u64], blocks: &[Block], numbers: &mut [[u16; 2]]) {
         for (block, put) in blocks.iter().zip(numbers) {
-            *put = match outcome(admit::<Self>(m, block)) {
-                Ok(slot) => [0, slot as u16],
-                Err(n) => [n as u16, 0],
-            };
+            *put = pair(outcome(admit::<Self>(m, block)));
         }
     }
 }

@@ -203,6 +203,7 @@ fn walk_by_lists(m: &[u64], findings: impl Fn(&[u64], Finding, &mut [u64]) -> u6
 
 const BATCH: &str = "a batch of 128 onto 128 and 64 at most";
 const TO_SINGLE_CALLS: &str = "the same, to 128 calls of admit";
+const REFUSED_BATCH: &str = "a batch of 128, each refused with 9";
 
 /// A batch of 128 onto the first entries of a registry: beside plain Rust's, and beside single admissions, ours and plain Rust's by
 /// the same algorithms.
@@ -231,13 +232,18 @@ fn written(m: &[u64]) -> Vec<u8> {
 /// The calls that leave the memory as it is: here rebuild too, since the registry is consistent. Open comes last.
 fn others(full: &[u64], r: &Registry) -> Vec<Line> {
     let m = RefCell::new(full.to_vec());
+    // at fault in the last byte, and in the last value
     let mut bad = r.containers[0].clone();
     bad[509] = 1;
     bytes::seal(&mut bad);
+    let value = bytes::container(&[1, 2, 3, 4, 5, 6, 7, 8].map(|key| (key, u16::from(key < 8))));
+    let (all_bad, numbers, tally) = (bad.repeat(128), RefCell::new([0; 256]), RefCell::new(Tally::default()));
     let plain_walk: Side = &|m, _| walk(m, b::next_finding);
     let file = RefCell::new(written(full));
     let mut lines = vec![
+        still("admit, refused with 7", &m, sides!(|_| admit(&value))),
         still("admit, refused with 9", &m, sides!(|_| admit(&bad))),
+        still(REFUSED_BATCH, &m, sides!(|_| admit_batch(&all_bad, &mut *numbers.borrow_mut(), &mut tally.borrow_mut()))),
         still("reaches", &m, alike!(|_| reaches(0, 0))),
         still("carries user", &m, alike!(|_| carries_user(0, 4))),
         still("counts", &m, alike!(|_| counts())),
@@ -356,6 +362,7 @@ fn bars(name: &str, registry: &str) -> (f64, f64) {
     let same = match name {
         "lister" => f64::INFINITY,
         "write" | BATCH => 1.3,
+        REFUSED_BATCH => 1.7,
         TO_SINGLE_CALLS => 0.1,
         _ => 1.2,
     };

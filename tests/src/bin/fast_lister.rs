@@ -9,8 +9,11 @@
 
 #[path = "../baseline/blocks.rs"]
 mod blocks;
+#[path = "../refusal.rs"]
+mod refusal;
 
 use blocks::{key, read_entry, read_settings, Entry, Settings};
+use refusal::{refused, refused_at, Refusal};
 
 #[link(name = "c")]
 extern "C" {
@@ -133,12 +136,14 @@ impl Text {
         self.put(&digits[from..]);
     }
 
-    fn refused(&mut self, block: u64, refusal: u64) {
+    fn refused(&mut self, block: u64, refusal: Refusal) {
         self.make_room();
         self.put(b"REFUSED ");
         self.put_number(block);
         self.put(b" ");
-        self.put_number(refusal);
+        self.put_number(refusal.number);
+        self.put(b" ");
+        self.put_number(refusal.position as u64);
         self.put(b"\n");
     }
 
@@ -172,15 +177,15 @@ struct Entries {
 }
 
 impl Entries {
-    fn admit(&mut self, block: &[u8]) -> Result<(), u64> {
+    fn admit(&mut self, block: &[u8]) -> Result<(), Refusal> {
         match read_entry(block)? {
             Entry::Container(part) => {
-                *self.labels.get_mut(self.containers).ok_or(12u64)? = part.labels;
+                *self.labels.get_mut(self.containers).ok_or(refused(12))? = part.labels;
                 self.containers += 1;
             }
             Entry::Policy(direction, select, allow) => {
                 let q = self.policies;
-                *self.parts.get_mut(q).ok_or(12u64)? = [select.labels, allow.labels];
+                *self.parts.get_mut(q).ok_or(refused(12))? = [select.labels, allow.labels];
                 let side = if direction == 1 { &mut self.ingress } else { &mut self.egress };
                 side[q / 64] |= 1 << (q % 64);
                 self.policies += 1;
@@ -221,7 +226,7 @@ fn read_all(input: &mut [u8; INPUT], entries: &mut Entries, text: &mut Text) -> 
         length -= whole;
     }
     if number == 0 {
-        text.refused(1, 3);
+        text.refused(1, refused(3));
     }
     settings
 }

@@ -1,7 +1,7 @@
 //! lister in plain Rust over the baseline, for `bench`: the same input, the same lines. `plain_lister trials` works by the first
 //! release's algorithms and works a row out again at each finding, `plain_lister labels` by the register's.
 
-use bihokura_tests::answers::{counts, finding, outcome, Finding};
+use bihokura_tests::answers::{counts, finding, outcome, Finding, Refusal};
 use bihokura_tests::baseline::{self as b, Algorithms, ByLabels, ByTrials};
 use bihokura_tests::layout::WORDS;
 use bihokura_tests::walks::walk_by_lists;
@@ -26,14 +26,14 @@ fn list<A: Algorithms, const AT_A_TIME: usize>(findings: Listing) {
     std::io::stdin().read_to_end(&mut input).unwrap();
     let mut out = std::io::BufWriter::with_capacity(65536, std::io::stdout().lock());
     if input.is_empty() {
-        writeln!(out, "REFUSED 1 3").unwrap();
+        writeln!(out, "REFUSED 1 3 0").unwrap();
         return;
     }
     let mut m = vec![0; WORDS];
     for (i, block) in input.chunks(512).enumerate() {
         let answer = if i == 0 { b::open(&mut m, block) } else { b::admit::<A>(&mut m, block) };
-        if let Err(refusal) = outcome(answer) {
-            writeln!(out, "REFUSED {} {refusal}", i + 1).unwrap();
+        if let Err(Refusal { number, position }) = outcome(answer) {
+            writeln!(out, "REFUSED {} {number} {position}", i + 1).unwrap();
             if i == 0 {
                 return;
             }

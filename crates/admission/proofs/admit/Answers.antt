@@ -21,13 +21,13 @@ admit-entry m formed b (container x) e = admit-container m formed b x e
 admit-entry m formed b (policy p) e = admit-policy m formed b p e
 
 pub returns-in_err-test_memory : goal.returns-in_err-test_memory
-returns-in_err-test_memory c = turned _ _ admitted_answer c.from_residual.ensures.1 refl (memory-refused _ _ (sym c.in_err-test_memory.ensures.result_value) _ refl)
+returns-in_err-test_memory c = turned _ _ admitted_answer c.from_residual.ensures.1 (memory-refused _ _ (sym c.in_err-test_memory.ensures.result_value) _ refl)
 
 pub returns-in_err-sort : goal.returns-in_err-sort
 returns-in_err-sort c =
     let e = rw c.in_ok-memory.ensures.ok_part at c.as_mut_array.ensures.cases in
     let refused = rw e.same at c.in_err-sort.ensures.result_value in
-    rw e.same (turned _ _ admitted_answer c.from_residual-in_err-sort.ensures.1 refl (admit-refused _ c.in_ok-test_memory.ensures.formed _ _ (entry-refused _ _ _ (sym refused))))
+    rw e.same (turned _ _ admitted_answer c.from_residual-in_err-sort.ensures.1 (admit-refused _ c.in_ok-test_memory.ensures.formed _ _ (entry-refused _ _ _ (sym refused))))
 
 pub admit_entry-requires : goal.admit_entry-requires
 admit_entry-requires c =

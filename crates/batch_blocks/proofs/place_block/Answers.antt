@@ -2,7 +2,8 @@
 use mathlib.Core.Path.{refl, sym, ap, ◌∙◌}
 use native.Mathlib.Omega.{arith}
 use Rattle.std.specs.Prelude.{Result, Ok}
-use Rattle.block.specs.declared.Reason.{Reason}
+use Rattle.block.specs.declared.Refusal.{Refusal}
+use Rattle.block.specs.Refusal.{lone_refusal}
 use Rattle.model.specs.ModelStep.{placing, placing_policy, admitting}
 use Rattle.formed.specs.Registry.{registry_in}
 use Rattle.formed.specs.Placed.{container_placed, policy_placed}
@@ -21,15 +22,15 @@ use Rattle.batch_blocks.proofs.place_block.Goals as goal
 pub returns-in_err-sort : goal.returns-in_err-sort
 returns-in_err-sort c =
     let f = block_refused c.args.memory.now c.args.block.now c.requires.0 (λ i. omega (arith, c.fits-memory i)) _ (entry-refused _ _ _ (sym c.in_err-sort.ensures.result_value)) in
-    let p = ap (λ (o : Result Admitted Reason). (c.args.memory.now, admitted_answer o)) (returned c.from_residual.ensures.1) ∙ sym f in
+    let p = ap (λ (o : Result Admitted Refusal). (c.args.memory.now, admitted_answer o)) (returned c.from_residual.ensures.1) ∙ sym f in
     record { result_after = p; result_bound = placed_below _ _ _ p }
 
 pub returns-in_err-slot-in-Container : goal.returns-in_err-slot-in-Container
 unfolding admitting placing
 returns-in_err-slot-in-Container c =
     let read = rw c.in-Container.is at c.in_ok-sort.ensures.accepted in
-    let full = returned (ok_or-reason _ _ _ c.from_residual-in_err-slot-in-Container.ensures.1 c.in_err-slot-in-Container.ensures.value) in
-    let p = ap (λ (o : Result Admitted Reason). (c.args.memory.now, admitted_answer o)) full
+    let full = returned (ok_or-reason lone_refusal _ _ _ c.from_residual-in_err-slot-in-Container.ensures.1 c.in_err-slot-in-Container.ensures.value) in
+    let p = ap (λ (o : Result Admitted Refusal). (c.args.memory.now, admitted_answer o)) full
     ∙ sym (entry-full _ _ _ read (placing _ _) _ refl c.requires.0 (λ i. omega (arith, c.fits-memory i)) refl (found-none container_slot _ (sym c.free_from-free.ensures ∙ c.in_err-slot-in-Container.ensures.ok_part))) in
     record { result_after = p; result_bound = placed_below _ _ _ p }
 
@@ -48,8 +49,8 @@ pub returns-in_err-slot-in-Policy : goal.returns-in_err-slot-in-Policy
 unfolding admitting placing_policy
 returns-in_err-slot-in-Policy c =
     let read = rw c.in-Policy.is at c.in_ok-sort.ensures.accepted in
-    let full = returned (ok_or-reason _ _ _ c.from_residual-in_err-slot-in-Policy.ensures.1 c.in_err-slot-in-Policy.ensures.value) in
-    let p = ap (λ (o : Result Admitted Reason). (c.args.memory.now, admitted_answer o)) full
+    let full = returned (ok_or-reason lone_refusal _ _ _ c.from_residual-in_err-slot-in-Policy.ensures.1 c.in_err-slot-in-Policy.ensures.value) in
+    let p = ap (λ (o : Result Admitted Refusal). (c.args.memory.now, admitted_answer o)) full
     ∙ sym (entry-full _ _ _ read (placing_policy _ _) _ refl c.requires.0 (λ i. omega (arith, c.fits-memory i)) refl (found-none policy_slot _ (sym c.free_from-free-in-Policy.ensures ∙ c.in_err-slot-in-Policy.ensures.ok_part))) in
     record { result_after = p; result_bound = placed_below _ _ _ p }
 

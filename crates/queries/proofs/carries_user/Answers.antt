@@ -14,13 +14,13 @@ use Rattle.queries.proofs.QueryLaws.{user-above, user-answer}
 use Rattle.queries.proofs.carries_user.Goals as goal
 
 pub returns-in_err-memory : goal.returns-in_err-memory
-returns-in_err-memory c = turned _ _ reply_answer c.from_residual.ensures.1 refl (memory-refused _ _ c.in_err-memory.ensures.refused _ refl)
+returns-in_err-memory c = turned _ _ reply_answer c.from_residual.ensures.1 (memory-refused _ _ c.in_err-memory.ensures.refused _ refl)
 
 pub returns-in_err-test_slot : goal.returns-in_err-test_slot
 unfolding refusals registry_in
 returns-in_err-test_slot c =
     let formed = c.in_ok-memory.ensures.formed in
-    rw c.in_ok-memory.ensures.same (turned _ _ reply_answer c.from_residual-in_err-test_slot.ensures.1 refl (slot-refused (container_tabled _) formed _ _ refl (sym c.in_err-test_slot.ensures.result_value)))
+    rw c.in_ok-memory.ensures.same (turned _ _ reply_answer c.from_residual-in_err-test_slot.ensures.1 (slot-refused (container_tabled _) formed _ _ refl (sym c.in_err-test_slot.ensures.result_value)))
 
 pub returns-then-value-gt65535 : goal.returns-then-value-gt65535
 returns-then-value-gt65535 c =

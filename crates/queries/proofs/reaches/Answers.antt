@@ -9,7 +9,7 @@ use Rattle.queries.proofs.QueryLaws.{reaches-refused-left, reaches-refused-right
 use Rattle.queries.proofs.reaches.Goals as goal
 
 pub returns-in_err-memory : goal.returns-in_err-memory
-returns-in_err-memory c = turned _ _ reply_answer c.from_residual.ensures.1 refl (memory-refused _ _ c.in_err-memory.ensures.refused _ refl)
+returns-in_err-memory c = turned _ _ reply_answer c.from_residual.ensures.1 (memory-refused _ _ c.in_err-memory.ensures.refused _ refl)
 
 pub returns-then-b-ge-CONTAINER_SLOTS : goal.returns-then-b-ge-CONTAINER_SLOTS
 returns-then-b-ge-CONTAINER_SLOTS c =
@@ -18,12 +18,12 @@ returns-then-b-ge-CONTAINER_SLOTS c =
 pub returns-in_err-test_slot : goal.returns-in_err-test_slot
 returns-in_err-test_slot c =
     let formed = c.in_ok-memory.ensures.formed in
-    rw c.in_ok-memory.ensures.same (turned _ _ reply_answer c.from_residual-in_err-test_slot.ensures.1 refl (reaches-refused-left _ formed _ _ _ (omega arith) (sym c.in_err-test_slot.ensures.result_value)))
+    rw c.in_ok-memory.ensures.same (turned _ _ reply_answer c.from_residual-in_err-test_slot.ensures.1 (reaches-refused-left _ formed _ _ _ (omega arith) (sym c.in_err-test_slot.ensures.result_value)))
 
 pub returns-in_err-test_slot-2 : goal.returns-in_err-test_slot-2
 returns-in_err-test_slot-2 c =
     let formed = c.in_ok-memory.ensures.formed in
-    rw c.in_ok-memory.ensures.same (turned _ _ reply_answer c.from_residual-in_err-test_slot-2.ensures.1 refl (reaches-refused-right _ formed _ _ _ (omega arith) (sym c.in_ok-test_slot.ensures.result_value) (sym c.in_err-test_slot-2.ensures.result_value)))
+    rw c.in_ok-memory.ensures.same (turned _ _ reply_answer c.from_residual-in_err-test_slot-2.ensures.1 (reaches-refused-right _ formed _ _ _ (omega arith) (sym c.in_ok-test_slot.ensures.result_value) (sym c.in_err-test_slot-2.ensures.result_value)))
 
 pub returns : goal.returns
 returns c =

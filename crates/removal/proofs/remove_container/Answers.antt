@@ -11,11 +11,11 @@ use Rattle.answers.proofs.AnswerLaws.{turned}
 use Rattle.removal.proofs.remove_container.Goals as goal
 
 pub returns-in_err-test_memory : goal.returns-in_err-test_memory
-returns-in_err-test_memory c = turned _ _ outcome_answer c.from_residual.ensures.1 refl (memory-refused _ _ (sym c.in_err-test_memory.ensures.result_value) _ refl)
+returns-in_err-test_memory c = turned _ _ outcome_answer c.from_residual.ensures.1 (memory-refused _ _ (sym c.in_err-test_memory.ensures.result_value) _ refl)
 
 pub returns-in_err-test_slot : goal.returns-in_err-test_slot
 unfolding refusals registry_in
-returns-in_err-test_slot c = turned _ _ outcome_answer c.from_residual-in_err-test_slot.ensures.1 refl (slot-refused (container_tabled _) c.in_ok-test_memory.ensures.formed _ _ refl (sym c.in_err-test_slot.ensures.result_value))
+returns-in_err-test_slot c = turned _ _ outcome_answer c.from_residual-in_err-test_slot.ensures.1 (slot-refused (container_tabled _) c.in_ok-test_memory.ensures.formed _ _ refl (sym c.in_err-test_slot.ensures.result_value))
 
 pub returns : goal.returns
 returns c =

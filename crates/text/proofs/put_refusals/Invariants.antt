@@ -10,6 +10,6 @@ abbrev pub invariant-loop-answer : goal.invariant-loop-answer
 invariant-loop-answer l = record {
   pairs : chunks_exact_size l.answer-iterator ≡ 2;
   numbers : l.block + length (chunks_exact_rest l.answer-iterator) / 2 ≡ l.n + length l.answers / 2;
-  room : l.put + 64 * (length (chunks_exact_rest l.answer-iterator) / 2) ≤ length l.out;
+  room : l.put + 72 * (length (chunks_exact_rest l.answer-iterator) / 2) ≤ length l.out;
   lines : ToPut l.initial.out (pair_lines l.n (pairs_of l.answers)) l.out l.put (pair_lines l.block (pairs_of (chunks_exact_rest l.answer-iterator)));
 }

@@ -7,7 +7,7 @@ use Rattle.upkeep.proofs.UpkeepLaws.{rebuild-answer}
 use Rattle.upkeep.proofs.rebuild.Goals as goal
 
 pub returns-in_err-test_memory : goal.returns-in_err-test_memory
-returns-in_err-test_memory c = turned _ _ outcome_answer c.from_residual.ensures.1 refl (memory-refused _ _ (sym c.in_err-test_memory.ensures.result_value) _ refl)
+returns-in_err-test_memory c = turned _ _ outcome_answer c.from_residual.ensures.1 (memory-refused _ _ (sym c.in_err-test_memory.ensures.result_value) _ refl)
 
 pub rebuild-requires : goal.rebuild-requires
 rebuild-requires c =

@@ -7,7 +7,7 @@ use Rattle.walks.proofs.WalkLaws.{next-answer}
 use Rattle.walks.proofs.next_finding.Goals as goal
 
 pub returns-in_err-memory : goal.returns-in_err-memory
-returns-in_err-memory c = turned _ _ next_answer c.from_residual.ensures.1 refl (memory-refused _ _ c.in_err-memory.ensures.refused _ refl)
+returns-in_err-memory c = turned _ _ next_answer c.from_residual.ensures.1 (memory-refused _ _ c.in_err-memory.ensures.refused _ refl)
 
 pub returns : goal.returns
 returns c =

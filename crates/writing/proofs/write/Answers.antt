@@ -18,7 +18,7 @@ returns-in_err-memory c =
 
 pub returns-then-bytes-file_length : goal.returns-then-bytes-file_length
 returns-then-bytes-file_length c =
-    let p = promised-refused _ (ask (write (length c.args.bytes.now))) c.args.bytes.now _ (write-short _ c.in_ok-memory.ensures.formed _ (omega (arith, c.file_length.ensures, c.if-bytes-file_length.true))) in
+    let p = promised-refused _ (ask (write (length c.args.bytes.now))) c.args.bytes.now _ _ (write-short _ c.in_ok-memory.ensures.formed _ (omega (arith, c.file_length.ensures, c.if-bytes-file_length.true))) in
     rw c.in_ok-memory.ensures.same (record { bytes_after = p.0; result_value = p.1.0; bytes_after_2 = p.1.1 })
 
 pub put_file-requires : goal.put_file-requires
