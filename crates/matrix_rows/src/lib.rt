@@ -87,7 +87,7 @@ fn outward_from(a: usize, gathered: &Gathered) -> [u64; 4]
 }
 
 // Row a of the matrix by the rules, a itself in it, where a is one of the containers that were gathered for, or a free slot.
-// Compiled into its callers, as it is for each of many rows.
+// Compiled into its callers: each of them makes many rows.
 #[inline(always)]
 pub fn row_from(a: usize, gathered: &Gathered) -> [u64; 4]
     requires { a < 256 }

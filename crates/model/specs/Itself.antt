@@ -1,5 +1,5 @@
 -- Document 02, Note 3: what the mended rules say of a container and itself.
-use Rattle.std.specs.Prelude.{◌≡◌, true, false, ℕ, ◌≤◌, ◌<◌, length}
+use Rattle.std.specs.Prelude.{◌≡◌, ◌↔◌, true, false, ℕ, ◌≤◌, ◌<◌, length}
 use Rattle.model.specs.Table.{on, at, stands}
 use Rattle.model.specs.Rules.{both_permit}
 use Rattle.model.specs.Model.{container_slots, Model, Bits, matrix_bit}
@@ -22,3 +22,6 @@ pub record IsolatedByOthers (m : Model) : Type 0 where
   pub others : (s t : Bits) (a : ℕ) → ((c : ℕ) → (c ≡ a → ⊥) → s.matrix c a ≡ t.matrix c a) → all_isolated m s a ≡ all_isolated m t a
   -- and one that stands alone is not isolated
   pub alone : length (containers_of m) ≤ 1 → (s : Bits) (a : ℕ) → all_isolated m s a ≡ false
+  -- where two stand, it is exactly what no other standing container reaches
+  pub exactly : 2 ≤ length (containers_of m) → (s : Bits) (a : ℕ)
+      → (all_isolated m s a ≡ true) ↔ ((c : ℕ) → stands m.containers c ≡ true → (c ≡ a → ⊥) → s.matrix c a ≡ false)

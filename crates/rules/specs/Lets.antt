@@ -30,6 +30,6 @@ sets_let n w sel alw c o = not (union w sel n c) || union (having w sel c) alw n
 unfoldable pub sets_let_by : ℕ → (ℕ → Bool) → (ℕ → ℕ → Bool) → (ℕ → ℕ → Bool) → ℕ → ℕ → Bool
 sets_let_by n w sel alw o c = sets_let n w sel alw c o
 
--- b among the standing s, where a stands too: a itself, and whom the policies of w let a have to do with and those of v let have to do with a
+-- b is in the line of a: both stand (s), and b is a, or the policies of w let a have b and those of v let b have a
 unfoldable pub line : ℕ → (ℕ → Bool) → (ℕ → Bool) → (ℕ → Bool) → (ℕ → ℕ → Bool) → (ℕ → ℕ → Bool) → ℕ → ℕ → Bool
 line n s w v sel alw a b = s a && (s b && (eqb a b || (sets_let n w sel alw a b && sets_let n v sel alw b a)))
