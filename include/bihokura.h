@@ -3,15 +3,15 @@
  * Every function takes the memory as a pointer and its number of 64-bit words, a block or a buffer of blocks as a pointer and its
  * length in bytes, a list as a pointer and how many numbers it has room for, and answers one number. Its top byte is the refusal's
  * number of document 01 or, from 13 on, of 02, 0 where the call was accepted; below the top byte stands what the call answers. A
- * refused call answers its number alone, but bihokura_open, bihokura_admit and bihokura_admit_batch answer the position at fault
- * too, in the low 16 bits. It leaves everything lent as it was. No function keeps a pointer. Memory of any size and any contents
- * may be handed over, and blocks, buffers and lists of any length; a pointer has to be valid for its length, and what one call is
- * lent may not overlap. Nothing is allocated; a call takes less than 80 KiB of stack (docs/LINKING.md).
+ * refused call answers its number alone; a refused bihokura_open, bihokura_admit or bihokura_admit_batch also has the position at
+ * fault, in the low 16 bits. A refused call leaves everything lent as it was. No function keeps a pointer. Memory of any size and
+ * any contents may be handed over, and blocks, buffers and lists of any length; a pointer has to be valid for its length, and what
+ * one call is lent may not overlap. Nothing is allocated; a call takes less than 80 KiB of stack (docs/LINKING.md).
  *
  * The position is the byte of the block at which what is at fault begins: with 4 it is 510; with 6 the first field at fault, a
- * count or the direction; with 7 the first key or value out of range (of settings whose system value does not go with the system
- * key, 4); with 8 the first key that does not exceed the one before it; with 9 the lowest unused byte that is not zero; with any
- * other number it is 0.
+ * count or the direction; with 7 the first key or value out of range, where a system value that does not go with the system key
+ * counts as one, at 4; with 8 the first key that does not exceed the one before it; with 9 the lowest unused byte that is not
+ * zero; with any other number it is 0.
  */
 #ifndef BIHOKURA_H
 #define BIHOKURA_H

@@ -232,7 +232,7 @@ fn written(m: &[u64]) -> Vec<u8> {
 /// The calls that leave the memory as it is: here rebuild too, since the registry is consistent. Open comes last.
 fn others(full: &[u64], r: &Registry) -> Vec<Line> {
     let m = RefCell::new(full.to_vec());
-    // at fault in the last byte, and in the last value
+    // at fault in byte 509, and in the last value
     let mut bad = r.containers[0].clone();
     bad[509] = 1;
     bytes::seal(&mut bad);
