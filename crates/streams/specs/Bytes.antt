@@ -1,6 +1,6 @@
 -- The input that is still to come, and what of a text was written.
-use Rattle.std.specs.Prelude.{Bool, true, false, ℕ, ◌+◌, ◌-◌, ◌≤◌, List, [], take, slice_range, Option, None, Some}
-use Rattle.std.specs.Io.KnownBytes.{prepend_known, Appends}
+use Rattle.std.specs.Prelude.{◌≡◌, Bool, true, false, ℕ, ◌+◌, ◌-◌, ◌≤◌, List, [], take, slice_range, Option, None, Some}
+use Rattle.std.specs.Io.KnownBytes.{prepend_known, Appends, IsAtEnd}
 use Rattle.streams.specs.declared.Input.{Input}
 use Rattle.streams.specs.declared.Input.TheVariants.{Unused, Ended}
 
@@ -33,6 +33,14 @@ abbrev pub unread : Input → Option (List ℕ) → Option (List ℕ)
 unread (Unused at end) left = left
 unread Ended None = None
 unread Ended (Some left) = Some []
+
+-- what was read and is still to be used, and then whatever the reader has left, told that it has ended or not
+abbrev pub held : List ℕ → Input → Option (List ℕ) → Option (List ℕ)
+held bytes input left = prepend_known (piece_of bytes input) left
+
+-- that the input has ended is told only where the reader has nothing left
+abbrev pub TellsEnd : Input → Option (List ℕ) → Type 0
+TellsEnd input left = ended_in input ≡ true → IsAtEnd left
 
 -- what was read and is still to be used, and then what the reader has left
 abbrev pub to_come : List ℕ → Input → Option (List ℕ) → Option (List ℕ)

@@ -7,7 +7,7 @@ ghost use Rattle.std.specs.Io.{ReadsAtMost, WritesAtMost};
 ghost use Rattle.std.specs.Io.KnownBytes.{Keeps, Appends, ReadConsumes, WriteAppends};
 ghost use Rattle.streams.specs.declared.Input.TheVariants.{Unused};
 ghost use Rattle.streams.specs.Calls.{Settles};
-ghost use Rattle.streams.specs.Bytes.{Within, ended_in, piece_of, left_in, after, to_come, AppendsSome};
+ghost use Rattle.streams.specs.Bytes.{Within, ended_in, piece_of, left_in, after, held, to_come, TellsEnd, AppendsSome};
 
 use std::io::{self, Error, ErrorKind, Read, Write};
 use std::thread;
@@ -112,6 +112,8 @@ pub fn refill<R: Read>(
     ensures kept { (0 < left_in input → result ≡ Ok input) × (ended_in input ≡ true → result ≡ Ok input) }
     ensures bytes { IfOk result (λ r. 0 < length bytes.old → Keeps (to_come bytes.old input (R.remaining reader.old)) (to_come bytes.new r (R.remaining reader.new))) }
     ensures empty { IfOk result (λ r. length bytes.old ≡ 0 → Keeps (R.remaining reader.old) (R.remaining reader.new)) }
+    ensures held { IfOk result (λ r. Keeps (held bytes.old input (R.remaining reader.old)) (held bytes.new r (R.remaining reader.new))) }
+    ensures end { IfOk result (λ r. 0 < length bytes.old → TellsEnd input (R.remaining reader.old) → TellsEnd r (R.remaining reader.new)) }
     ensures err { OnErr result (Keeps (R.remaining reader.old) (R.remaining reader.new)) }
 {
     match input {
