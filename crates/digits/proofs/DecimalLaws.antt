@@ -30,7 +30,7 @@ short-by (suc f) (suc k) n h =
     by-ltb (λ t. length (cond t ((48 + n) ∷ []) (decimal_by f (n / 10) ++ (48 + n % 10) ∷ [])) ≤ suc (suc k)) n 10 (λ l. omega arith)
     (λ l. omega (arith, short-by f k (n / 10) (omega (arith, h, pow-succ' 10 (suc k))), length-append (decimal_by f (n / 10)) ((48 + n % 10) ∷ [])))
 
-decimal-short : (k n : ℕ) → n < 10 ^ suc k → length (decimal n) ≤ suc k
+pub decimal-short : (k n : ℕ) → n < 10 ^ suc k → length (decimal n) ≤ suc k
 unfolding decimal
 decimal-short = short-by 19
 
@@ -57,10 +57,10 @@ pub decimal-one : (n : ℕ) → n < 10 → decimal n ≡ (48 + n) ∷ []
 unfolding decimal
 decimal-one = one-digit 19
 
-decimal-two : (n : ℕ) → 10 ≤ n → n < 100 → decimal n ≡ (48 + n / 10) ∷ (48 + n % 10) ∷ []
+pub decimal-two : (n : ℕ) → 10 ≤ n → n < 100 → decimal n ≡ (48 + n / 10) ∷ (48 + n % 10) ∷ []
 decimal-two n l h = decimal-more n l (omega arith) ∙ ap (λ (x : List ℕ). x ++ (48 + n % 10) ∷ []) (decimal-one (n / 10) (omega arith))
 
-decimal-three : (n : ℕ) → 100 ≤ n → n < 1000 → decimal n ≡ (48 + n / 100) ∷ (48 + n / 10 % 10) ∷ (48 + n % 10) ∷ []
+pub decimal-three : (n : ℕ) → 100 ≤ n → n < 1000 → decimal n ≡ (48 + n / 100) ∷ (48 + n / 10 % 10) ∷ (48 + n % 10) ∷ []
 decimal-three n l h =
     let e : n / 10 / 10 ≡ n / 100 = omega arith in
     decimal-more n (omega arith) (omega arith) ∙ ap (λ (x : List ℕ). x ++ (48 + n % 10) ∷ []) (decimal-two (n / 10) (omega arith) (omega arith))

@@ -17,7 +17,7 @@ use store::Words;
 // that an ingress policy selects, and for each container in `outs` what the egress policies that select it allow, in `backs` what the
 // ingress policies that allow it select.
 // Of its 24 KiB none is copied: it is made where it is kept, and lent.
-#[derive(Drop)]
+#[derive(Clone, Copy)]
 pub struct Gathered {
     pub sets: PolicySets,
     pub standing: [u64; 4],

@@ -31,7 +31,7 @@ labels-same m s (suc n) last i j h =
 
 -- ---- a slice
 
-module _ (m : List ℕ) (a b : ℕ) (r : a ≤ b) (within : b ≤ length m) where
+module _ (m : List ℕ) (a b : ℕ) (within : b ≤ length m) where
   pub slice-length : length (slice_range m a b) ≡ b - a
   slice-length = omega (arith, length-take (b - a) (drop a m), length-drop a m)
 
@@ -58,7 +58,7 @@ module _ (m : List ℕ) (a b limit : ℕ) (e : b ≡ a + 1 + limit) (within : b 
   s = slice_range m a b
 
   word : (i : ℕ) → i < limit + 1 → word_at s i ≡ word_at m (a + i)
-  word i h = slice-word m a b (omega arith) within i (omega arith)
+  word i h = slice-word m a b within i (omega arith)
 
   head : word_at s 0 ≡ word_at m a
   head = word 0 (omega arith) ∙ ap (word_at m) (add-zero a)
@@ -86,7 +86,7 @@ module _ (m : List ℕ) (a b limit : ℕ) (e : b ≡ a + 1 + limit) (within : b 
   pub part-slice : part_ok s 0 (length s - 1) ≡ part_ok m a limit
   unfolding part_ok
   part-slice =
-      let n : length s - 1 ≡ limit = omega (arith, slice-length m a b (omega arith) within) in
+      let n : length s - 1 ≡ limit = omega (arith, slice-length m a b within) in
       ap (part_ok s 0) n
       ∙ ap (λ w. ltb 0 w and (leb w (limit + 1) and (labels_between s (0 + 1) (0 + w) and zeros s (0 + w) (0 + 1 + limit)))) head
       ∙ and-same (ltb 0 (word_at m a))

@@ -11,6 +11,7 @@ use borrow.Author.Tests.{not-true}
 use Rattle.bitrow.specs.Set.{has_some}
 use Rattle.block.specs.Entry.{Policy}
 use Rattle.block.specs.Reader.{direction_of}
+use Rattle.block.specs.Written.{direction_number}
 use Rattle.block.proofs.Written.{direction-back}
 use Rattle.model.specs.Table.{on, at, stands}
 use Rattle.model.specs.Rules.{selects}
@@ -55,11 +56,14 @@ selection-with : (m : Model) (q : ℕ) (x : Option Policy) (p : Policy) → sele
 unfolding selection with_policy
 selection-with m q x p = refl
 
--- the direction of a policy that stands
-pub stored-direction : (m : List ℕ) → EntriesFormed m → (q : ℕ) → q < policy_slots → (p : Policy) → at (model_in m).policies q ≡ some p → direction_of (word_at m (policy_start q)) ≡ p.direction
+-- the direction's word of a policy that stands
+pub stored-direction : (m : List ℕ) → EntriesFormed m → (q : ℕ) → q < policy_slots → (p : Policy) → at (model_in m).policies q ≡ some p → word_at m (policy_start q) ≡ direction_number p.direction
 stored-direction m ok q hq p e =
-    ap direction_of (first_word m (policy_start q) _ (policy_word (policy_in m q)) (formed-policy m ok q hq) ∙ ap (λ o. policy_word o 0) (sym (policy-slot m q hq) ∙ e))
-    ∙ direction-back p.direction
+    first_word m (policy_start q) _ (policy_word (policy_in m q)) (formed-policy m ok q hq) ∙ ap (λ o. policy_word o 0) (sym (policy-slot m q hq) ∙ e)
+
+-- its direction
+pub direction-stored : (m : List ℕ) → EntriesFormed m → (q : ℕ) → q < policy_slots → (p : Policy) → at (model_in m).policies q ≡ some p → direction_of (word_at m (policy_start q)) ≡ p.direction
+direction-stored m ok q hq p e = ap direction_of (stored-direction m ok q hq p e) ∙ direction-back p.direction
 
 -- the slot made free
 pub slot-freed : (m : List ℕ) → EntriesFormed m → (q : ℕ) → q < policy_slots → Fit m → {e : List ℕ} → e ≡ slot_set m (policy_start q) policy_words (λ k. 0)

@@ -46,7 +46,7 @@ weighted-set d at x h =
     ∙ ap₂ (λ (m n : ℕ). m + n * (at + 1)) (same-weight (set d at x) d at (λ k l. get_or-set_other d at k x 0 (λ e. omega arith))) (get_or-set_same d at x 0 h)
 
 -- what a byte adds to the sum at most
-byte_small : (x p : ℕ) → x ≤ 255 → p ≤ 510 → x * p ≤ 130050
+pub byte_small : (x p : ℕ) → x ≤ 255 → p ≤ 510 → x * p ≤ 130050
 byte_small x p h k = mul-le-mul {n₂ = 255} {m₂ = 510} h k
 
 byte_put : {d : List ℕ} {at sum : ℕ} (x : ℕ) → Summed d at sum → at < 510 → x ≤ 255 → Lengthens d at (x ∷ []) (set d at x) (sum + x * (at + 1))

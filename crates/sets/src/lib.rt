@@ -12,7 +12,7 @@ use label_table::LabelTable;
 use store::Words;
 
 // "Two sets for each policy: the containers it selects and those it allows."
-#[derive(Drop)]
+#[derive(Clone, Copy)]
 pub struct PolicySets {
     pub selected: [[u64; 4]; 128],
     pub allowed: [[u64; 4]; 128],

@@ -2,7 +2,7 @@
 use mathlib.Core.Path.{sym, ◌∙◌}
 use mathlib.Core.Option.{some}
 use Rattle.block.proofs.Accepted.{accepted-valid}
-use Rattle.policy_changes.proofs.PolicyChanged.{held-entries, held-standing, held_at, stored-direction, selected-selection, change-entries, change-standing, change-selection, change-stored, change-done, change-over}
+use Rattle.policy_changes.proofs.PolicyChanged.{held-entries, held-standing, held_at, direction-stored, selected-selection, change-entries, change-standing, change-selection, change-stored, change-done, change-over}
 use Rattle.policy_changes.proofs.put_policy.Goals as goal
 
 pub settle-selected-requires : goal.settle-selected-requires
@@ -39,5 +39,5 @@ returns c =
     let changed = c.settle-selected.ensures.0 in
     let h = held_at _ p.0 _ p.1 (some _) v c.place_policy.ensures in
     change-done _ p.0 _ p.1 (some _) v c.place_policy.ensures changed _
-    (c.reset_touched.ensures.is _ (c.from-direction.ensures ∙ stored-direction _ (held-entries _ p.0 _ p.1 (some _) v c.place_policy.ensures) _ p.1 _ h)
+    (c.reset_touched.ensures.is _ (c.from-direction.ensures ∙ direction-stored _ (held-entries _ p.0 _ p.1 (some _) v c.place_policy.ensures) _ p.1 _ h)
     (c.settle-selected.ensures.1 ∙ selected-selection _ _ _ h ∙ change-selection _ p.0 _ p.1 (some _) v c.place_policy.ensures changed _))

@@ -3,7 +3,7 @@ use mathlib.Core.Path.{refl, sym, ◌∙◌}
 use mathlib.Core.Option.{none}
 use Rattle.model.specs.Model.{computed_bits}
 use Rattle.entries.proofs.Trials.{policy-at}
-use Rattle.policy_changes.proofs.PolicyChanged.{slot-freed, held-entries, held-standing, held-selection, stored-direction, selected-selection, change-entries, change-standing, change-selection, change-stored, change-done, change-over}
+use Rattle.policy_changes.proofs.PolicyChanged.{slot-freed, held-entries, held-standing, held-selection, direction-stored, selected-selection, change-entries, change-standing, change-selection, change-stored, change-done, change-over}
 use Rattle.policy_changes.proofs.take_policy.Goals as goal
 
 pub settle-requires : goal.settle-requires
@@ -40,4 +40,4 @@ returns c =
     let held = slot-freed _ p.0 _ p.1 c.fits-memory c.clear_slot.ensures in
     let changed = c.settle.ensures.0 in let still = c.matched-selected.ensures ∙ selected-selection _ _ _ (policy-at _ _ p.2) ∙ held-selection _ p.0 _ p.1 none refl held _ ∙ change-selection _ p.0 _ p.1 none refl held changed _ in
     change-done _ p.0 _ p.1 none refl held changed _
-    (c.reset_touched.ensures.is _ (c.from-direction.ensures ∙ stored-direction _ p.0 _ p.1 _ (policy-at _ _ p.2)) still)
+    (c.reset_touched.ensures.is _ (c.from-direction.ensures ∙ direction-stored _ p.0 _ p.1 _ (policy-at _ _ p.2)) still)

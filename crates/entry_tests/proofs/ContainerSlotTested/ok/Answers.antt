@@ -9,14 +9,14 @@ use Rattle.part_tests.proofs.Slices.{slice-word, zeros-slice, part-slice}
 use Rattle.entry_tests.proofs.ContainerSlotTested.ok.Goals as goal
 
 head : (m : List ℕ) (at : ℕ) → at + container_words ≤ length m → word_at (slice_range m at (at + container_words)) 0 ≡ word_at m at
-head m at h = slice-word m at (at + container_words) (omega arith) h 0 (omega arith) ∙ ap (word_at m) (add-zero at)
+head m at h = slice-word m at (at + container_words) h 0 (omega arith) ∙ ap (word_at m) (add-zero at)
 
 pub returns-then-slot-eq0 : goal.returns-then-slot-eq0
 unfolding container_ok
 returns-then-slot-eq0 c =
     let m = c.args.memory.now in
     let at = container_start c.args.self.0 in
-    c.zeros.ensures ∙ zeros-slice m at (at + container_words) (omega arith) (omega arith)
+    c.zeros.ensures ∙ zeros-slice m at (at + container_words) (omega arith)
     ∙ sym (choose_yes _ _ _ (eq-eqb _ _ (sym (head m at (omega arith)) ∙ c.if-slot-eq0.true)) refl)
 
 pub returns : goal.returns

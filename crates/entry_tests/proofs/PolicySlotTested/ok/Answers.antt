@@ -12,7 +12,7 @@ unfolding policy_ok
 returns-then-direction-eq0 c =
     let m = c.args.memory.now in
     let at = policy_start c.args.self.0 in
-    c.zeros.ensures ∙ zeros-slice m at (at + policy_words) (omega arith) (omega arith)
+    c.zeros.ensures ∙ zeros-slice m at (at + policy_words) (omega arith)
     ∙ sym (choose_yes _ _ _ (eq-eqb _ _ c.if-direction-eq0.true) refl)
 
 pub returns-then-direction-gt2 : goal.returns-then-direction-gt2
