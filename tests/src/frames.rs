@@ -10,7 +10,7 @@ const ARCHIVE: &str = concat!(env!("CARGO_MANIFEST_DIR"), "/../target/staticlib/
 const RETURN: usize = 8;
 
 /// What the library calls of the C library's. What these take is not counted.
-const OUTSIDE: [&str; 2] = ["memcpy", "memset"];
+const OUTSIDE: [&str; 1] = ["memset"];
 
 /// The calls with seven arguments: the last one is passed on the stack.
 const SEVEN: [&str; 2] = ["bihokura_findings", "bihokura_admit_batch"];

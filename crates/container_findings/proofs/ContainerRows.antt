@@ -6,7 +6,9 @@ use Prim.Native.Nat.{ℕ}
 use lib.Dec.{eqb}
 use borrow.Author.Tests.{eq-eqb, ne_eqb}
 use Rattle.bitrow.specs.Bit.{bit_at}
-use Rattle.bitrow.specs.Set.{nothing, remove, meet, less}
+use Rattle.bitrow.specs.Set.{nothing, remove, meet, less, has_some}
+use Rattle.bitrow.proofs.Sets.{point, nothing-at}
+use Rattle.bitrow.proofs.Tests.{has_some-absent}
 use Rattle.model.specs.Model.{container_slots}
 use Rattle.model.specs.Findings.{user_cross, system_isolation}
 use Rattle.model.specs.Findings as model
@@ -73,6 +75,19 @@ module _ (m : List ℕ) (a : ℕ) (h : containers_stand m a ≡ true) where
       e ∙ cross-with (λ b. false) others
       (λ b hb. formed-same-user m ok a b h hb ∙ ap (λ p. not p && eqb (user_word m a) (user_word m b)) (eq-eqb (user_word m a) 0 (sym w ∙ z)))
       (λ b. and-true (others b))
+
+  -- there are no others
+  pub cross-none : {set : ℕ → Bool} → set ≡ others → has_some set ≡ false → nothing ≡ shown_at m 3 a
+  unfolding remove meet
+  cross-none e n =
+      cross-with (model.same_user (model_in m) a) nothing (λ b h. refl)
+      (λ b. go b (containers_stand m b) refl)
+    where
+      go : (b : ℕ) (t : Bool) → containers_stand m b ≡ t → (others b && not (model.same_user (model_in m) a b)) ≡ nothing b
+      go b true h = ap (λ t. t && not (model.same_user (model_in m) a b)) (sym (point e b) ∙ has_some-absent _ n b (container-below m b h)) ∙ sym (nothing-at b)
+      go b false h =
+          ap (λ t. (not (eqb b a) && (t && bit_at (row_at m a) b)) && not (model.same_user (model_in m) a b)) h
+          ∙ ap (λ t. t && not (model.same_user (model_in m) a b)) (and-false (not (eqb b a))) ∙ sym (nothing-at b)
 
   -- 4. a does not carry the system label
   pub system-none : model.is_system (model_in m) a ≡ false → nothing ≡ shown_at m 4 a

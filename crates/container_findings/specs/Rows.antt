@@ -1,5 +1,5 @@
 -- The findings of a kind at a, as the set of all b, and what those over containers are worked out from.
-use Rattle.std.specs.Prelude.{◌≡◌, Bool, true, ◌&&◌, List, ℕ, ◌<◌, eqb, ltb}
+use Rattle.std.specs.Prelude.{◌≡◌, Bool, true, ◌&&◌, List, ℕ, ◌+◌, ◌<◌, eqb, ltb}
 use Rattle.bitrow.specs.Bit.{bit_at}
 use Rattle.bitrow.specs.Set.{size}
 use Rattle.model.specs.Table.{stands}
@@ -30,6 +30,10 @@ if_two_stand s t a = ltb 1 (size s 256) && t a
 -- the containers whose word under the user key is this one; it is 0 where they have none
 unfoldable pub with_user : List ℕ → ℕ → ℕ → Bool
 with_user m word c = eqb (word_under (word_at m 0) (part_in m (container_start c))) word
+
+-- the same, counted from a container on
+unfoldable pub users_from : List ℕ → ℕ → ℕ → ℕ → Bool
+users_from m word first i = with_user m word (first + i)
 
 -- a memory that says entries, the row of its standing containers, and one of them
 pub record AtContainer (m row : List ℕ) (a : ℕ) : Type 0 where

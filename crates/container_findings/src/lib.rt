@@ -1,12 +1,12 @@
 // The findings over containers: kinds 1 to 4.
 #![tactic(auto)]
 
-ghost use Rattle.std.specs.Prelude.{◌≡◌, true, List, ℕ, ◌<◌};
-ghost use Rattle.bitrow.specs.Bit.{bit_at};
+ghost use Rattle.std.specs.Prelude.{◌≡◌, true, List, ℕ, ◌≤◌, ◌<◌};
+ghost use Rattle.bitrow.specs.Bit.{bit, bit_at};
 ghost use Rattle.bitrow.specs.Set.{meet, under};
 ghost use Rattle.model.specs.Kinds.{kind_number};
 ghost use Rattle.formed.specs.Registry.{EntriesFormed};
-ghost use Rattle.container_findings.specs.Rows.{shown_at, containers_stand, zero_if, if_two_stand, AtContainer};
+ghost use Rattle.container_findings.specs.Rows.{shown_at, containers_stand, zero_if, if_two_stand, with_user, users_from, AtContainer};
 ghost use Rattle.container_findings.specs.Passes.{word_set, Passed};
 ghost use Rattle.container_findings.specs.Views.{of_user, OwnWords, places_of, UsersOf, BothTold, ContainersSeen, SlotsOfKind};
 
@@ -16,12 +16,14 @@ use store::Words;
 
 // The users, as far as they were asked for. If `told` is set, `own` has each container's word under the user key, 0 where it has none. At each
 // place is the word of one user, or 0, and the row of the standing containers with that word. A user's place is told by the word alone, and a
-// user who finds another one there takes the place.
+// user who finds another one there takes the place. `asked` is of how many containers the word was looked up one by one, or past the most where
+// nothing is put off: a number for speed alone, of which nothing is said.
 // Kept: a flag beside the array, since an Option of it would be copied as it is filled; and two arrays, since a user is looked up by the words
 // alone.
 #[derive(Drop)]
 pub struct Users {
     pub told: bool,
+    pub asked: u32,
     pub own: [u64; 256],
     pub words: [u64; 64],
     pub rows: [[u64; 4]; 64],
@@ -74,12 +76,51 @@ fn places_of(own: &[u64; 256], word: u64) -> [u64; 4]
     ]
 }
 
+// Those of some containers whose word under the user key is this one; `set` has the 64 from `first` on.
+fn same_user_word(memory: &Words, set: u64, first: usize, word: u64) -> u64
+    requires { EntriesFormed memory.now × (first ≤ 192) }
+    ensures { bit result ≡ meet (meet (bit set) (users_from memory.now word first)) (under 64) }
+{
+    let key = memory[0];
+    let mut chosen = 0u64;
+    for k in Bits(set) {
+        let i = usize::from(k);
+        let at = store::CONTAINERS + store::CONTAINER_WORDS * (first + i);
+        if entry_labels::word_under(memory, at, key) == word {
+            chosen = bitrow::word_with(chosen, i);
+        }
+    }
+    chosen
+}
+
+// Those of a set whose word under the user key is this one.
+fn same_user(memory: &Words, set: [u64; 4], word: u64) -> [u64; 4]
+    requires { EntriesFormed memory.now }
+    ensures { bit_at result ≡ meet (bit_at set) (with_user memory.now word) }
+{
+    [
+        same_user_word(memory, set[0], 0, word),
+        same_user_word(memory, set[1], 64, word),
+        same_user_word(memory, set[2], 128, word),
+        same_user_word(memory, set[3], 192, word),
+    ]
+}
+
+// So many containers are always compared one by one: that takes no longer than to compare the words of all by the table.
+const FEW: u32 = 24;
+
+// So many are compared one by one before the words of all are told, where it is not known how many rows will be asked for.
+const MOST_ASKED: u32 = 1024;
+
 impl Users {
-    pub fn none() -> Users
+    // `at_once`: the words of all are told for the first set that is not small.
+    pub fn none(at_once: bool) -> Users
         ensures { (m : List ℕ) → UsersOf m result }
     {
+        let asked = if at_once { MOST_ASKED } else { 0 };
         Users {
             told: false,
+            asked,
             own: [0; 256],
             words: [0; 64],
             rows: [[0; 4]; 64],
@@ -116,6 +157,30 @@ impl Users {
         self.words[place] = word;
         self.rows[place] = row;
         row
+    }
+
+    // Those of a set that stand and are of the user with this word. A small set is compared one by one, and so is any as long as few were.
+    // Kept: the cast, as above.
+    fn among(&mut self, memory: &Words, standing: [u64; 4], set: [u64; 4], word: u64) -> [u64; 4]
+        requires standing { EntriesFormed memory.now × (bit_at standing ≡ containers_stand memory.now) }
+        requires users { UsersOf memory.now self.old }
+        requires user { 0 < word }
+        ensures row { bit_at result ≡ meet (bit_at set) (of_user memory.now word) }
+        ensures users { UsersOf memory.now self.new }
+    {
+        let place = (word % 64) as usize;
+        let there = self.words[place];
+        if there == word {
+            return row_sets::both(set, self.rows[place]);
+        }
+        let n = row_reads::count(set);
+        let asked = self.asked.saturating_add(n);
+        if n <= FEW || (!self.told && asked <= MOST_ASKED) {
+            self.asked = asked;
+            return same_user(memory, row_sets::both(set, standing), word);
+        }
+        let own = self.containers_of(memory, standing, word);
+        row_sets::both(set, own)
     }
 }
 
@@ -179,8 +244,9 @@ fn left_of(memory: &Words, standing: [u64; 4]) -> Left
 }
 
 impl ContainerView {
-    // Of the containers that stand. What is told of all of them is told where many findings are to be asked for.
-    pub fn of(memory: &Words, standing: [u64; 4], many: bool) -> ContainerView
+    // Of the containers that stand. What is told of all of them is told where `many` findings are to be asked for. `at_once`: as with the
+    // users.
+    pub fn of(memory: &Words, standing: [u64; 4], many: bool, at_once: bool) -> ContainerView
         requires { bit_at standing ≡ containers_stand memory.now }
         ensures { ContainersSeen memory.now result }
     {
@@ -196,7 +262,7 @@ impl ContainerView {
             told: many,
             by_all,
             by_none,
-            users: Users::none(),
+            users: Users::none(at_once),
         }
     }
 
@@ -231,6 +297,9 @@ fn user_cross(memory: &Words, standing: [u64; 4], users: &mut Users, a: usize) -
 {
     let reached = access::row_at(memory, a);
     let others = row_sets::without(row_sets::both(standing, reached), a);
+    if row_tests::is_empty(others) {
+        return row_sets::none();
+    }
     let word = entry_labels::word_under(
         memory,
         store::CONTAINERS + store::CONTAINER_WORDS * a,
@@ -239,7 +308,7 @@ fn user_cross(memory: &Words, standing: [u64; 4], users: &mut Users, a: usize) -
     if word == 0 {
         return others;
     }
-    let own = users.containers_of(memory, standing, word);
+    let own = users.among(memory, standing, others, word);
     row_sets::except(others, own)
 }
 

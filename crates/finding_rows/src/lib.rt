@@ -24,36 +24,37 @@ pub struct View {
 }
 
 impl View {
-    // `many`: whether so many findings are asked for that what is told of all containers at once, and the table of policies, are worth it.
-    pub fn of(memory: &Words, many: bool) -> View
+    // `many`: what is told of all containers at once is told now. `at_once`: the users' words are told for the first row with more
+    // than a few containers, the table of policies is filled for the first that asks it; else both are put off until so many have asked
+    // that it adds little to what they took.
+    pub fn of(memory: &Words, many: bool, at_once: bool) -> View
         requires { EntriesFormed memory.now }
         ensures { ViewOf memory.now result }
     {
         let containers = stored::standing::<model::ContainerSlot>(memory);
         let policies = stored::standing::<model::PolicySlot>(memory);
         View {
-            containers: ContainerView::of(memory, containers, many),
-            policies: PolicyView::of(memory, policies, many),
+            containers: ContainerView::of(memory, containers, many, at_once),
+            policies: PolicyView::of(memory, policies, at_once),
         }
     }
 
-    // For each kind's number the slots at which there can be a finding of it; none for 0, which is no kind.
-    pub fn slots(&self, memory: &Words) -> [[u64; 4]; 8]
+    // For each kind's number the slots at which there can be a finding of it; none for 0, which is no kind. The table is lent: one that is
+    // answered is copied by `memcpy`, which who links the archive would have to bring.
+    pub fn slots(&self, memory: &Words, slots: &mut [[u64; 4]; 8])
         requires { EntriesFormed memory.now × ViewOf memory.now self.now }
-        ensures { SlotsOf memory.now result }
+        ensures { SlotsOf memory.now slots.new }
     {
         let containers = &self.containers;
         let policies = policy_findings::policy_slots(&self.policies);
-        [
-            [0; 4],
-            container_findings::container_slots(memory, containers, Kind::AllReachable),
-            container_findings::container_slots(memory, containers, Kind::AllIsolated),
-            container_findings::container_slots(memory, containers, Kind::UserCross),
-            container_findings::container_slots(memory, containers, Kind::SystemIsolation),
-            policies,
-            policies,
-            policies,
-        ]
+        slots[0] = [0; 4];
+        slots[1] = container_findings::container_slots(memory, containers, Kind::AllReachable);
+        slots[2] = container_findings::container_slots(memory, containers, Kind::AllIsolated);
+        slots[3] = container_findings::container_slots(memory, containers, Kind::UserCross);
+        slots[4] = container_findings::container_slots(memory, containers, Kind::SystemIsolation);
+        slots[5] = policies;
+        slots[6] = policies;
+        slots[7] = policies;
     }
 }
 

@@ -1,7 +1,7 @@
 // The findings after any three numbers, by the entries and the stored bits of a memory: as many as a list holds, or the next one.
 #![tactic(auto)]
 
-ghost use Rattle.std.specs.Prelude.{◌≡◌, true, map, ◌+◌, ◌-◌, ◌*◌, ◌<◌, length};
+ghost use Rattle.std.specs.Prelude.{◌≡◌, true, ◌&&◌, ◌||◌, eqb, ltb, leb, map, ◌+◌, ◌-◌, ◌*◌, ◌<◌, length};
 ghost use Rattle.std.specs.Iterator.{at_most};
 ghost use Rattle.bitrow.specs.Bit.{bit_at};
 ghost use Rattle.bitrow.specs.Set.{meet, at_least, under};
@@ -15,7 +15,7 @@ use finding_rows::View;
 use model::{Finding, Kind};
 use store::Words;
 
-// For so many findings and more, tables are worth filling.
+// For so many findings and more, what many rows ask for is worth working out ahead.
 pub const MANY: usize = 16;
 
 // A place in the list of findings: any three numbers.
@@ -113,13 +113,22 @@ pub fn cursor_at(code: u64) -> Cursor
 }
 
 impl Cursor {
+    // Whether what is told of all containers at once is to be told before a row asks for it: many findings are wanted, and of the rows of
+    // kind 2, the last to ask for it, more than half are still to come.
+    pub fn tells_ahead(self, wanted: usize) -> bool
+        ensures { result ≡ (leb 16 wanted && (ltb self.kind 2 || (eqb self.kind 2 && ltb self.a 128))) }
+    {
+        (MANY <= wanted) & ((self.kind < 2) | ((self.kind == 2) & (self.a < 128)))
+    }
+
     // Puts the findings after the cursor's three numbers, as many as the list holds; answers how many.
     fn put_all(self, memory: &Words, list: &mut [u64]) -> usize
         requires { well_formed memory.now ≡ true }
         ensures { Puts list.old 0 (map finding_code (walk (next_after (model_in memory.now) (bits_in memory.now)) (length list.old) (cursor_place self))) list.new result }
     {
-        let mut view = View::of(memory, list.len() >= MANY);
-        let slots = view.slots(memory);
+        let mut view = View::of(memory, self.tells_ahead(list.len()), false);
+        let mut slots = [[0; 4]; 8];
+        view.slots(memory, &mut slots);
         let mut count = 0;
         let rows = Rows {
             slots: &slots,

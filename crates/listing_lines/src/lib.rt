@@ -16,7 +16,7 @@ ghost use Rattle.listing_lines.specs.GoesOn.{GoesOn};
 ghost use Rattle.listing_lines.specs.RowsIn.{RowsIn, place_before};
 
 use finding_rows::View;
-use findings::{Cursor, MANY, Rows};
+use findings::{Cursor, Rows};
 use model::Kind;
 use store::Words;
 
@@ -99,8 +99,10 @@ pub fn put_lines(memory: &Words, cursor: Cursor, out: &mut [u8], wanted: usize) 
             next: Some(cursor),
         };
     }
-    let mut view = View::of(memory, wanted >= MANY);
-    let slots = view.slots(memory);
+    // A listing goes on to its end, so nothing is put off.
+    let mut view = View::of(memory, cursor.tells_ahead(wanted), true);
+    let mut slots = [[0; 4]; 8];
+    view.slots(memory, &mut slots);
     let rows = Rows {
         slots: &slots,
         kind: usize::from(cursor.kind),

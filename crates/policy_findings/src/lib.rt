@@ -23,7 +23,7 @@ use selecting::Selecting;
 use store::{Part, Words};
 
 // What the rows of findings over policies are worked out from, made once for many rows: the standing policies, those of each
-// direction, and the table of those that select each container, which is filled where a row first asks for it.
+// direction, and the table of those that select each container, which is filled once some rows asked for it.
 #[derive(Drop)]
 pub struct PolicyView {
     pub standing: [u64; 4],
@@ -33,8 +33,8 @@ pub struct PolicyView {
 }
 
 impl PolicyView {
-    // Of a memory. The table is filled only where many rows are to be asked for.
-    pub fn of(memory: &Words, standing: [u64; 4], many: bool) -> PolicyView
+    // Of a memory. The table is not filled yet; `at_once`: it is for the first row that asks.
+    pub fn of(memory: &Words, standing: [u64; 4], at_once: bool) -> PolicyView
         requires { EntriesFormed memory.now × (bit_at standing ≡ policies_stand memory.now) }
         ensures seen { PoliciesSeen memory.now result }
         ensures standing { result.standing ≡ standing }
@@ -43,7 +43,7 @@ impl PolicyView {
             standing,
             ingress: reach::of_direction(memory, Direction::Ingress),
             egress: reach::of_direction(memory, Direction::Egress),
-            selecting: Selecting::empty(many),
+            selecting: Selecting::empty(at_once),
         }
     }
 }

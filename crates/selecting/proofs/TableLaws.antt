@@ -17,7 +17,7 @@ use Rattle.model.specs.Model.{container_slots}
 use Rattle.entries.proofs.Trials.{policy-below}
 use Rattle.sets.specs.Sets.{bits}
 use Rattle.container_findings.specs.Rows.{policies_stand}
-use Rattle.selecting.specs.declared.Filling.TheVariants.{Never, Later, Filled}
+use Rattle.selecting.specs.declared.Filling.TheVariants.{Later, Filled}
 use Rattle.selecting.specs.declared.Selecting.{Selecting}
 use Rattle.selecting.specs.Selecting.{Within, Shaped, Put, Entered, noted, NotedFor, Joined, EachSelecting, SelectingIn, Sharing, Covering}
 use Rattle.selecting.proofs.RowLaws.{shaped-set, put-there, put-kept}
@@ -239,11 +239,8 @@ module _ (m : List ℕ) (who : ℕ → Bool) where
 
 -- ---- a table that is not filled, and one that is
 
-pub never-filled : Never ≡ Filled → ⊥
-never-filled e = cc
-
-pub later-filled : Later ≡ Filled → ⊥
-later-filled e = cc
+pub later-filled : (n : ℕ) → Later n ≡ Filled → ⊥
+later-filled n e = cc
 
 module _ (m : List ℕ) {t : Selecting} where
   pub not-filled : Shaped container_slots t.rows → (t.filling ≡ Filled → ⊥) → SelectingIn m t

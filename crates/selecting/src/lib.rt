@@ -1,4 +1,4 @@
-// Which standing policies select each container, by the stored sets: a table that is filled where it is first asked.
+// Which standing policies select each container, by the stored sets: a table that is filled once some rows were asked for.
 #![tactic(auto)]
 
 ghost use Rattle.std.specs.Prelude.{◌≡◌, true, List, ℕ, ◌<◌, ◌≤◌};
@@ -16,12 +16,14 @@ use store::{Part, Words};
 // How far a table is.
 #[derive(Clone, Copy)]
 pub enum Filling {
-    // It stays empty: too few rows are asked of it for its filling to be worth while.
-    Never,
-    // It is filled where it is first asked.
-    Later,
+    // It is filled after so many rows more: till then to compare all policies costs no more than to fill it.
+    Later(u32),
     Filled,
 }
+
+// So many rows are asked for before the table is filled, where it is not known how many will be: without it a row takes a fifth of a
+// microsecond, and to fill it takes up to seven.
+const ROWS_FIRST: u32 = 96;
 
 // A row of policies for each container, and beside them one of the wide policies: these select many containers, so they are put into none
 // of the rows and count for every container.
@@ -34,13 +36,13 @@ pub struct Selecting {
 }
 
 impl Selecting {
-    // A table that is not filled: it holds of any memory.
-    pub fn empty(many: bool) -> Selecting
+    // A table that is not filled: it holds of any memory. `at_once`: it is filled for the first row that asks.
+    pub fn empty(at_once: bool) -> Selecting
         ensures { (m : List ℕ) → SelectingIn m result }
     {
-        let filling = if many { Filling::Later } else { Filling::Never };
+        let rows_first = if at_once { 0 } else { ROWS_FIRST };
         Selecting {
-            filling,
+            filling: Filling::Later(rows_first),
             rows: [[0; 2]; 256],
             wide: [0; 2],
         }
@@ -145,18 +147,21 @@ fn joined_rows(table: &Selecting, who: [u64; 4]) -> [u64; 4]
     widened(d)
 }
 
-// Fills the table if that is put off till it is asked; whether it is filled.
+// Fills the table where no more rows come before that, and else counts this one; whether it is filled.
 fn fill(memory: &Words, table: &mut Selecting, standing: [u64; 4]) -> bool
     requires { (bit_at standing ≡ policies_stand memory.now) × SelectingIn memory.now table.old }
     ensures rows { result ≡ true → EachSelecting memory.now table.new.rows table.new.wide }
     ensures table { SelectingIn memory.now table.new }
 {
     match table.filling {
-        Filling::Never => false,
-        Filling::Later => {
+        Filling::Later(0) => {
             enter_all(table, memory, standing);
             table.filling = Filling::Filled;
             true
+        }
+        Filling::Later(n) => {
+            table.filling = Filling::Later(n - 1);
+            false
         }
         Filling::Filled => true,
     }

@@ -21,8 +21,8 @@ returns-then-wanted-eq0-clause-goes_on c = on-none c.args.memory.now (cursor_pla
 pub of-view-requires : goal.of-view-requires
 of-view-requires c = formed-entries _ c.requires.0
 
-pub slots-slots-requires : goal.slots-slots-requires
-slots-slots-requires c = (formed-entries _ c.requires.0, c.of-view.ensures)
+pub slots-requires : goal.slots-requires
+slots-requires c = (formed-entries _ c.requires.0, c.of-view.ensures)
 
 pub put_rows-requires : goal.put_rows-requires
 put_rows-requires c =
@@ -30,7 +30,7 @@ put_rows-requires c =
       c.requires.0,
       c.of-view.ensures,
       record {
-        slots = c.slots-slots.ensures;
+        slots = c.slots.ensures;
         kind = omega (arith, c.from.ensures, sized.small_kind);
         slot = omega (arith, c.from-2.ensures, sized.small_a);
         from = (omega arith, omega (arith, c.from-3.ensures, sized.small_b));

@@ -15,14 +15,14 @@ use Rattle.findings.proofs.Cursor.put_all.Goals as goal
 pub of-view-requires : goal.of-view-requires
 of-view-requires c = formed-entries _ c.requires
 
-pub slots-slots-requires : goal.slots-slots-requires
-slots-slots-requires c = (formed-entries _ c.requires, c.of-view.ensures)
+pub slots-requires : goal.slots-requires
+slots-requires c = (formed-entries _ c.requires, c.of-view.ensures)
 
 pub loop-row-init : goal.loop-row-init
 loop-row-init c =
     let sized : SmallPlace (cursor_place c.args.self) = record { small_kind = search rules; small_a = search rules; small_b = search rules } in
     rw (c.into_iter-row-iterator.ensures.into_iter_gives, c.from.ensures, c.from-2.ensures, c.from-3.ensures)
-    (record { put = listed-none (map finding_code) _ refl sized; view = c.of-view.ensures; slots = c.slots-slots.ensures })
+    (record { put = listed-none (map finding_code) _ refl sized; view = c.of-view.ensures; slots = c.slots.ensures })
 
 pub loop-row-preserved : goal.loop-row-preserved
 loop-row-preserved c =
