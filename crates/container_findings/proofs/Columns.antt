@@ -91,11 +91,11 @@ module _ (m : List ℕ) (a : ℕ) where
       ∙ all-part (model_in m).containers (container-below m) (λ c. not (not (eqb c a) && (bits_in m).matrix c a))
       ∙ ap (part (containers_stand m)) (fun_ext (λ c. not-both (eqb c a) ((bits_in m).matrix c a))))
 
-  told-1 : told_of m 1 a ≡ (containers_stand m a && part (containers_stand m) (reached_by (bits_in m) a))
+  pub told-1 : told_of m 1 a ≡ (containers_stand m a && part (containers_stand m) (reached_by (bits_in m) a))
   unfolding told_of
   told-1 = at_1 m a 0 ∙ ap (λ t. containers_stand m a && t) reachable-column
 
-  told-2 : told_of m 2 a ≡ (containers_stand m a && (ltb 1 (length (containers_of (model_in m))) && part (containers_stand m) (spares (bits_in m) a)))
+  pub told-2 : told_of m 2 a ≡ (containers_stand m a && (ltb 1 (length (containers_of (model_in m))) && part (containers_stand m) (spares (bits_in m) a)))
   unfolding told_of
   told-2 = at-2 m a 0 ∙ ap (λ t. containers_stand m a && t) isolated-column
 

@@ -7,4 +7,5 @@ mod Columns
 mod ContainerWords
 mod ContainerRows
 mod SlotLaws
+mod FirstRows
 mod UserLaws

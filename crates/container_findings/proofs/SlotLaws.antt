@@ -30,18 +30,22 @@ stands-at m k a b l h = go (containers_stand m a) refl
     go true e = refl
     go false e = absurd (false≢true (sym (nothing-at b) ∙ point (no-container m k a l e) b ∙ h))
 
+-- where there is a finding of kinds 1 and 2, they tell of the container
+module _ (m : List ℕ) (a b : ℕ) where
+  pub told_by-1 : shown_at m 1 a b ≡ true → told_of m 1 a ≡ true
+  unfolding told_of
+  told_by-1 h = at_1 m a 0 ∙ at-zero (containers_stand m a) (eqb b 0) (all_reachable (model_in m) (bits_in m) a) (sym (at_1 m a b) ∙ h)
+
+  pub told_by-2 : shown_at m 2 a b ≡ true → told_of m 2 a ≡ true
+  unfolding told_of
+  told_by-2 h = at-2 m a 0 ∙ at-zero (containers_stand m a) (eqb b 0) (all_isolated (model_in m) (bits_in m) a) (sym (at-2 m a b) ∙ h)
+
 module _ (m : List ℕ) {row : List ℕ} where
   pub slots-1 : bit_at row ≡ told_of m 1 → SlotsOfKind m 1 row
-  unfolding told_of
-  slots-1 e = record {
-    slot = λ a b h. point e a ∙ at_1 m a 0 ∙ at-zero (containers_stand m a) (eqb b 0) (all_reachable (model_in m) (bits_in m) a) (sym (at_1 m a b) ∙ h);
-  }
+  slots-1 e = record { slot = λ a b h. point e a ∙ told_by-1 m a b h }
 
   pub slots-2 : bit_at row ≡ told_of m 2 → SlotsOfKind m 2 row
-  unfolding told_of
-  slots-2 e = record {
-    slot = λ a b h. point e a ∙ at-2 m a 0 ∙ at-zero (containers_stand m a) (eqb b 0) (all_isolated (model_in m) (bits_in m) a) (sym (at-2 m a b) ∙ h);
-  }
+  slots-2 e = record { slot = λ a b h. point e a ∙ told_by-2 m a b h }
 
   -- where no system label is set there are none
   pub slots-unset : EntriesFormed m → word_at m 1 ≡ 0 → SlotsOfKind m 4 row

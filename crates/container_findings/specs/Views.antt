@@ -37,12 +37,15 @@ pub record BothTold (m : List ℕ) (left : Left) : Type 0 where
   pub by_all : bit_at left.by_all ≡ told_of m 1
   pub by_none : bit_at left.by_none ≡ told_of m 2
 
--- the containers that stand, some users, and if they are told those that every container reaches and those that are isolated
+-- a row that has every slot at which there is a finding of kind k
+pub record SlotsOfKind (m : List ℕ) (k : ℕ) (row : List ℕ) : Type 0 where
+  pub slot : (a b : ℕ) → shown_at m k a b ≡ true → bit_at row a ≡ true
+
+-- the containers that stand, some users, and the slots at which there can be a finding of kinds 1 and 2: if they are told, those that every
+-- container reaches and those that are isolated
 pub record ContainersSeen (m : List ℕ) (view : ContainerView) : Type 0 where
   pub standing : bit_at view.standing ≡ containers_stand m
   pub told : view.told ≡ true → BothTold m (record { by_all = view.by_all; by_none = view.by_none })
   pub users : UsersOf m view.users
-
--- a row that has every slot at which there is a finding of kind k
-pub record SlotsOfKind (m : List ℕ) (k : ℕ) (row : List ℕ) : Type 0 where
-  pub slot : (a b : ℕ) → shown_at m k a b ≡ true → bit_at row a ≡ true
+  pub all_slots : SlotsOfKind m 1 view.by_all
+  pub none_slots : SlotsOfKind m 2 view.by_none

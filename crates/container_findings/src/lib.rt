@@ -30,9 +30,9 @@ pub struct Users {
 }
 
 // What the findings over containers are worked out from, made once for a listing: the standing containers, the users met so far, and if `told` is
-// set those that every container reaches and those that are isolated.
+// set those that every container reaches and those that are isolated, else those that may be.
 // Of its 4.6 KiB none is copied: it is made where it is kept, and lent.
-// Kept: a flag: before it is set the two rows are empty, and say nothing.
+// Kept: a flag: before it is set the two rows have other containers too.
 #[derive(Drop)]
 pub struct ContainerView {
     pub standing: [u64; 4],
@@ -243,6 +243,22 @@ fn left_of(memory: &Words, standing: [u64; 4]) -> Left
     Left { by_all, by_none }
 }
 
+// Some of the lowest slots: the rows of the containers there mostly leave no other to be asked for by itself.
+const FIRST: u64 = 65535;
+
+// What the rows of the containers in the first slots leave: the slots at which there can still be a finding of kinds 1 and 2.
+#[inline(always)]
+fn first_left(memory: &Words, standing: [u64; 4]) -> Left
+    requires { bit_at standing ≡ containers_stand memory.now }
+    ensures by_all { SlotsOfKind memory.now 1 result.by_all }
+    ensures by_none { SlotsOfKind memory.now 2 result.by_none }
+{
+    let by_all = standing;
+    let by_none = standing;
+    let before = Left { by_all, by_none };
+    pass(memory, standing[0] & FIRST, 0, before)
+}
+
 impl ContainerView {
     // Of the containers that stand. What is told of all of them is told where `many` findings are to be asked for. `at_once`: as with the
     // users.
@@ -250,18 +266,18 @@ impl ContainerView {
         requires { bit_at standing ≡ containers_stand memory.now }
         ensures { ContainersSeen memory.now result }
     {
-        let mut by_all = [0; 4];
-        let mut by_none = [0; 4];
-        if many {
-            let left = left_of(memory, standing);
-            by_all = left.by_all;
-            by_none = left.by_none;
-        }
+        let left = if many {
+            left_of(memory, standing)
+        } else {
+            first_left(memory, standing)
+        };
+        let all_slots = left.by_all;
+        let none_slots = left.by_none;
         ContainerView {
             standing,
             told: many,
-            by_all,
-            by_none,
+            by_all: all_slots,
+            by_none: none_slots,
             users: Users::none(at_once),
         }
     }
@@ -329,15 +345,15 @@ fn system_isolation(memory: &Words, standing: [u64; 4], a: usize) -> [u64; 4]
     row_sets::except(row_sets::without(standing, a), reached)
 }
 
-// The slots at which there can be a finding of this kind; there is none at any other. Of kinds 1 and 2 these are all containers until those
-// that they tell of are told.
+// The slots at which there can be a finding of this kind; there is none at any other. Of kinds 1 and 2 these are what the first rows leave
+// until those that they tell of are told.
 pub fn container_slots(memory: &Words, view: &ContainerView, kind: Kind) -> [u64; 4]
     requires { EntriesFormed memory.now × ContainersSeen memory.now view.now × (kind_number kind < 5) }
     ensures { SlotsOfKind memory.now (kind_number kind) result }
 {
     match kind {
-        Kind::AllReachable if view.told => view.by_all,
-        Kind::AllIsolated if view.told => view.by_none,
+        Kind::AllReachable => view.by_all,
+        Kind::AllIsolated => view.by_none,
         Kind::SystemIsolation if memory[1] == 0 => row_sets::none(),
         _ => view.standing,
     }

@@ -1,12 +1,12 @@
 -- What the view says of each kind.
-use Rattle.container_findings.proofs.SlotLaws.{slots-1, slots-2, slots-unset, slots-standing}
+use Rattle.container_findings.proofs.SlotLaws.{slots-unset, slots-standing}
 use Rattle.container_findings.proofs.container_slots.Goals as goal
 
 pub returns-in-AllReachable : goal.returns-in-AllReachable
-returns-in-AllReachable c = rw c.in-AllReachable.is (slots-1 _ (c.requires.1.told c.if-view.true).by_all)
+returns-in-AllReachable c = rw c.in-AllReachable.is c.requires.1.all_slots
 
 pub returns-in-AllIsolated : goal.returns-in-AllIsolated
-returns-in-AllIsolated c = rw c.in-AllIsolated.is (slots-2 _ (c.requires.1.told c.if-view-2.true).by_none)
+returns-in-AllIsolated c = rw c.in-AllIsolated.is c.requires.1.none_slots
 
 pub returns-in-SystemIsolation : goal.returns-in-SystemIsolation
 returns-in-SystemIsolation c = rw c.in-SystemIsolation.is (slots-unset _ c.requires.0 c.if-memory-eq0.true)
